@@ -1,7 +1,6 @@
 pub mod Acts
 pub mod Calls
 pub mod Changes
-pub mod CopiedOut
 pub mod Drawn
 pub mod Fresh
 pub mod Held

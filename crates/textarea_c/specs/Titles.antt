@@ -2,8 +2,8 @@
 use Rattle.std.specs.Prelude.{ℕ, ◌≡◌, ◌≢◌, List, [], ◌∷◌, Option, MatchOption}
 use Rattle.textarea_terminal.specs.declared.output.title.CursorShape.{CursorShape}
 use Rattle.textarea_terminal.specs.declared.output.title.CursorShape.TheVariants as shape
+use Rattle.textarea_c_data.specs.Copied.{IsCopiedOut}
 use Rattle.textarea_c_data.specs.Tables.{value_of_number}
-use Rattle.textarea_c.specs.CopiedOut.{IsCopiedOut}
 
 -- the numbers by which C names the shapes
 abbrev pub cursor_shapes : List (ℕ × CursorShape)

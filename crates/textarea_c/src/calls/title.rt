@@ -1,8 +1,8 @@
 //! The shape of a terminal's cursor, and the title of its window.
 ghost use Rattle.std.specs.Prelude.{◌≡◌, ◌≢◌, OnOk, OnErr, option_map};
 ghost use Rattle.textarea_terminal.specs.Title.{cursor_shape_bytes, title_bytes};
-ghost use Rattle.textarea_c.specs.CopiedOut.{IsCopiedOut};
 ghost use Rattle.textarea_c.specs.Titles.{WritesBytes, cursor_shape_of};
+ghost use Rattle.textarea_c_data.specs.Copied.{IsCopiedOut};
 ghost use Rattle.textarea_c_data.specs.Texts.{text_in};
 
 use std::alloc::{AllocError, Global};
