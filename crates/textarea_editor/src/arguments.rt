@@ -152,7 +152,11 @@ fn position_of(word: &str) -> Option<(usize, usize)>
 {
     match word.split_once(",") {
         None => place(line_number(word), Some(1)),
-        Some((line, column)) => place(line_number(line), line_number(column)),
+        Some((line, column)) => {
+            let counted_line = line_number(line);
+            let counted_column = line_number(column);
+            place(counted_line, counted_column)
+        }
     }
 }
 

@@ -15,9 +15,9 @@ returns-in-Some c = inr (record {
   front = c.in-Some.line.now;
   back = c.in-Some.column.now;
   word_is = split_text_parts (codes ",") c.args.word.now (Some (c.in-Some.line, c.in-Some.column)) c.in-Some.ensures.cases;
-  line = c.line_number-in-Some.result;
-  line_is = c.line_number-in-Some.ensures;
-  column = c.line_number-in-Some-2.result;
-  column_is = c.line_number-in-Some-2.ensures;
+  line = c.line_number-counted_line-in-Some.result;
+  line_is = c.line_number-counted_line-in-Some.ensures;
+  column = c.line_number-counted_column-in-Some.result;
+  column_is = c.line_number-counted_column-in-Some.ensures;
   position_is = c.place-in-Some.ensures;
 })
