@@ -1,7 +1,7 @@
 -- Undos, redos and edits keep lines and their history sound.
 use Rattle.std.proofs.Common.{◌≡◌, ◌<◌, ◌∙◌, length, ℕ, Bool, List, String, Option, Some, None, Result, Ok, Err, ap, refl, subst, sym}
 use Rattle.std.specs.Option.{IfSome}
-use Rattle.std.specs.Result.{IfOk, OnErr}
+use Rattle.std.specs.Result.{IfOk, OnErr, OnOk}
 use Rattle.textarea_text.specs.Text.{Symbol, text_of}
 use Rattle.textarea_text.specs.Place.{Place}
 use Rattle.textarea_text.specs.Splice.{Fits, Splice, applied, inverse}
@@ -47,3 +47,9 @@ sound_made logged new after splice typed now h fits text_is log_is =
     (sym (ap (λ (t : List Symbol). record { text = t; log = after }) text_is
     ∙ ap (λ (l : Log). record { text = applied logged.text splice; log = l }) log_is))
     (sound_edited logged splice typed now h fits)
+
+-- what holds before a step that may fail, and of what the step leaves, holds after it
+pub either_way : {V T E : Type 0} (P : V → Log → Type 0) (result : Result T E) (old made new : V) (log logged after : Log) → P old log → P made logged
+    → OnOk result ((new ≡ made) × (after ≡ logged)) → OnErr result ((new ≡ old) × (after ≡ log)) → P new after
+either_way P (Ok done) old made new log logged after before h is other = subst (P new) (sym is.1) (subst (λ v. P v logged) (sym is.0) h)
+either_way P (Err e) old made new log logged after before h other is = subst (P new) (sym is.1) (subst (λ v. P v log) (sym is.0) before)

@@ -6,6 +6,7 @@ use seplogic.Ra.Ura.{Ura}
 use mir.Syntax.{impl, tnil, dnil}
 use mir.Raw.{raw as bare}
 use mir.Val.{Val, vptr, vstruct, vcons, vnil, of_list, has_ty, WT}
+use base.Fml.{Fml, fsep}
 use base.Logic.{never, fst∗}
 use types.Logic.{Logic, sem}
 use types.Kit.{Item, Goal, Seq, Step, step, ‵, ◌$◌, move, drop, rewrite, fsplit, fjoin, fpick, fpack, feq_i, feq_l}
@@ -16,8 +17,8 @@ use denote.RawPtr.{Ptr, block_ptr, null_ptr, ptr_val, in_a_block}
 use denote.Steps.{nothing}
 use denote.Param.{layout}
 use denote.Param.Laws.{Laws}
-use denote.Struct.Struct.{within}
-use denote.Struct.Owning.{shape, to}
+use denote.Struct.Struct.{Struct, within}
+use denote.Struct.Owning.{shape}
 use Rattle.std.specs.declared.alloc.Allocator.{Ghosts}
 use Rattle.std.proofs.alloc.Calls.{Al, handle_tells}
 use Rattle.std.proofs.cell.Inside.{Good}
@@ -61,12 +62,17 @@ module _ (R Z : RattleType) (L : Laws Z) (g : Ghosts Z.Denot) where
         (subst (λ (ws : List Val). vs ≡ vstruct (of_list (ptr_val d.at ∷ (ws ++ []))) ∷ []) single
         (subst (λ (ps : List Val). vs ≡ vstruct (of_list (ps ++ (vss.1.0 ++ []))) ∷ []) at whole))) fits)))))
 
+    -- a struct of a pointer and an allocator's handle, which owns something beside the handle
+    pub word_in : K → (p : Ptr) (h : Val) (a : Z.Denot) (F : Fml)
+        → Step K 𝓛 (‵ (fsep ((Struct (shape (loose.the_type R Z g))).own_val (p, (a, tt)) (vstruct (vcons (ptr_val p) (vcons h vnil)) ∷ [])) F) ∷ Γ) G (‵ F ∷ ‵ (Z.own_val a (h ∷ [])) ∷ Γ) G
+    word_in t p h a F = step (λ s. let w : Val = vstruct (vcons (ptr_val p) (vcons h vnil)) in
+        nothing t $ move t (2 ∷ 0 ∷ []) $ fjoin t $ feq_i t (List Val) (ptr_val p ∷ []) (ptr_val p ∷ []) refl $ fjoin t $ feq_i t (List Val) (w ∷ []) (w ∷ []) refl $ fjoin t $
+        fpack t (Valss (RawPtr ∷ Z ∷ [])) (within (shape (loose.the_type R Z g)) (p, (a, tt)) (w ∷ [])) (ptr_val p ∷ [], (h ∷ [], tt)) $ fjoin t $ s)
+
     -- and back
     pub loose_in : K → (b o : ℕ) (h : Val) (a : Z.Denot) (x : R.Denot)
         → Step K 𝓛 (‵ (Loose.own_val (record { at = block_ptr b o; alloc = a; value = x }) (word b o h ∷ [])) ∷ Γ) G (‵ (box_owns (g.dealloc_token a) R (block_ptr b o) x) ∷ ‵ (Z.own_val a (h ∷ [])) ∷ Γ) G
-    loose_in t b o h a x = step (λ s.
-        nothing t $ move t (2 ∷ 0 ∷ []) $ fjoin t $ feq_i t (List Val) (vptr b o ∷ []) (vptr b o ∷ []) refl $ fjoin t $ feq_i t (List Val) (word b o h ∷ []) (word b o h ∷ []) refl $ fjoin t $
-        fpack t (Valss (RawPtr ∷ Z ∷ [])) (within (shape (loose.the_type R Z g)) (block_ptr b o, (a, tt)) (word b o h ∷ [])) (vptr b o ∷ [], (h ∷ [], tt)) $ fjoin t $ s)
+    loose_in t b o h a x = word_in t (block_ptr b o) h a (box_owns (g.dealloc_token a) R (block_ptr b o) x)
 
 -- ---- the same at a text area, as C holds it
 abbrev pub heap : Ghosts Global.Denot
@@ -90,35 +96,21 @@ module _ {M : Type 1} {𝓤 : Ura M} {𝓛 : Logic 𝓤} {K : Type 0} {Γ : List
       → ((b o : ℕ) (h : Val) → d.at ≡ block_ptr b o → vs ≡ word b o h ∷ [] → Good (layout Global) h → Seq K 𝓛 (‵ (box_owns (heap.dealloc_token d.alloc) editor (block_ptr b o) x) ∷ ‵ (Global.own_val d.alloc (h ∷ [])) ∷ Γ) G)
       → Seq K 𝓛 (‵ (stored.the_row.own_val d vs) ∷ Γ) G
   held_out t d vs x full k =
-      fsplit t $ fpick t (λ vss. fsplit t $ feq_l t (λ whole. fsplit t $ feq_l t (λ at. fsplit t $ handle_tells global t d.alloc vss.1.0 (λ h single fits. move t (1 ∷ []) $ drop t $ move t (1 ∷ []) $
-      rewrite t 0 (λ (o : Option editor.Denot). ‵ (owns_content d.alloc editor d.at o)) full refl $
-      in_a_block t d.at (λ p. box_owns (heap.dealloc_token d.alloc) editor p x) (fst∗ 𝓤 (never 𝓤) (sem 𝓛 (heap.dealloc_token d.alloc (bare (lone editor.mir)) null_ptr))) (λ b o e. k b o h e
-      (subst (λ (p : Ptr). vs ≡ vstruct (of_list (ptr_val p ∷ h ∷ [])) ∷ []) e
-      (subst (λ (ws : List Val). vs ≡ vstruct (of_list (ptr_val d.at ∷ (ws ++ []))) ∷ []) single
-      (subst (λ (ps : List Val). vs ≡ vstruct (of_list (ps ++ (vss.1.0 ++ []))) ∷ []) at whole))) fits)))))
+      rewrite t 0 (λ (o : Option editor.Denot). ‵ (stored.the_row.own_val (record { at = d.at; alloc = d.alloc; content = o }) vs)) full refl $
+      loose_out editor Global global_laws heap t (record { at = d.at; alloc = d.alloc; value = x }) vs k
 
   pub held_in : K → (p : Ptr) (h : Val) (a : Global.Denot) (o : Option editor.Denot)
       → Step K 𝓛 (‵ (stored.the_row.own_val (record { at = p; alloc = a; content = o }) (vstruct (vcons (ptr_val p) (vcons h vnil)) ∷ [])) ∷ Γ) G (‵ (owns_content a editor p o) ∷ ‵ (Global.own_val a (h ∷ [])) ∷ Γ) G
-  held_in t p h a o = step (λ s. let w : Val = vstruct (vcons (ptr_val p) (vcons h vnil)) in let d : stored.the_row.Denot = record { at = p; alloc = a; content = o } in
-      nothing t $ move t (2 ∷ 0 ∷ []) $ fjoin t $ feq_i t (List Val) (ptr_val p ∷ []) (ptr_val p ∷ []) refl $ fjoin t $ feq_i t (List Val) (w ∷ []) (w ∷ []) refl $ fjoin t $
-      fpack t (Valss (shape stored.the_type).fields) (within (shape stored.the_type) (to stored.the_type d) (w ∷ [])) (ptr_val p ∷ [], (h ∷ [], tt)) $ fjoin t $ s)
+  held_in t p h a o = word_in editor Global global_laws heap t p h a (owns_content a editor p o)
 
--- ---- the same at a terminal
-module _ {M : Type 1} {𝓤 : Ura M} {𝓛 : Logic 𝓤} {K : Type 0} {Γ : List (Item 𝓤)} {G : Goal 𝓤 𝓛.H} where
-  -- where it holds a terminal, that with its block, and the handle
+  -- the same of a terminal
   pub terminal_out : K → (d : stored_terminal.the_row.Denot) (vs : List Val) (x : terminal.Denot) → d.content ≡ Some x
       → ((b o : ℕ) (h : Val) → d.at ≡ block_ptr b o → vs ≡ word b o h ∷ [] → Good (layout Global) h → Seq K 𝓛 (‵ (box_owns (heap.dealloc_token d.alloc) terminal (block_ptr b o) x) ∷ ‵ (Global.own_val d.alloc (h ∷ [])) ∷ Γ) G)
       → Seq K 𝓛 (‵ (stored_terminal.the_row.own_val d vs) ∷ Γ) G
   terminal_out t d vs x full k =
-      fsplit t $ fpick t (λ vss. fsplit t $ feq_l t (λ whole. fsplit t $ feq_l t (λ at. fsplit t $ handle_tells global t d.alloc vss.1.0 (λ h single fits. move t (1 ∷ []) $ drop t $ move t (1 ∷ []) $
-      rewrite t 0 (λ (o : Option terminal.Denot). ‵ (owns_content d.alloc terminal d.at o)) full refl $
-      in_a_block t d.at (λ p. box_owns (heap.dealloc_token d.alloc) terminal p x) (fst∗ 𝓤 (never 𝓤) (sem 𝓛 (heap.dealloc_token d.alloc (bare (lone terminal.mir)) null_ptr))) (λ b o e. k b o h e
-      (subst (λ (p : Ptr). vs ≡ vstruct (of_list (ptr_val p ∷ h ∷ [])) ∷ []) e
-      (subst (λ (ws : List Val). vs ≡ vstruct (of_list (ptr_val d.at ∷ (ws ++ []))) ∷ []) single
-      (subst (λ (ps : List Val). vs ≡ vstruct (of_list (ps ++ (vss.1.0 ++ []))) ∷ []) at whole))) fits)))))
+      rewrite t 0 (λ (o : Option terminal.Denot). ‵ (stored_terminal.the_row.own_val (record { at = d.at; alloc = d.alloc; content = o }) vs)) full refl $
+      loose_out terminal Global global_laws heap t (record { at = d.at; alloc = d.alloc; value = x }) vs k
 
   pub terminal_in : K → (p : Ptr) (h : Val) (a : Global.Denot) (o : Option terminal.Denot)
       → Step K 𝓛 (‵ (stored_terminal.the_row.own_val (record { at = p; alloc = a; content = o }) (vstruct (vcons (ptr_val p) (vcons h vnil)) ∷ [])) ∷ Γ) G (‵ (owns_content a terminal p o) ∷ ‵ (Global.own_val a (h ∷ [])) ∷ Γ) G
-  terminal_in t p h a o = step (λ s. let w : Val = vstruct (vcons (ptr_val p) (vcons h vnil)) in let d : stored_terminal.the_row.Denot = record { at = p; alloc = a; content = o } in
-      nothing t $ move t (2 ∷ 0 ∷ []) $ fjoin t $ feq_i t (List Val) (ptr_val p ∷ []) (ptr_val p ∷ []) refl $ fjoin t $ feq_i t (List Val) (w ∷ []) (w ∷ []) refl $ fjoin t $
-      fpack t (Valss (shape stored_terminal.the_type).fields) (within (shape stored_terminal.the_type) (to stored_terminal.the_type d) (w ∷ [])) (ptr_val p ∷ [], (h ∷ [], tt)) $ fjoin t $ s)
+  terminal_in t p h a o = word_in terminal Global global_laws heap t p h a (owns_content a terminal p o)

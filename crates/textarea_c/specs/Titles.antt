@@ -1,8 +1,8 @@
 -- What a terminal is sent for its cursor's shape and its window's title.
-use Rattle.std.specs.Prelude.{ℕ, ◌≡◌, ◌≢◌, List, [], ◌∷◌, length, Option, MatchOption}
+use Rattle.std.specs.Prelude.{ℕ, ◌≡◌, ◌≢◌, List, [], ◌∷◌, Option, MatchOption}
 use Rattle.textarea_terminal.specs.declared.output.title.CursorShape.{CursorShape}
 use Rattle.textarea_terminal.specs.declared.output.title.CursorShape.TheVariants as shape
-use Rattle.textarea_c_data.specs.Copied.{copied_over}
+use Rattle.textarea_c_data.specs.Copied.{IsCopiedOut}
 use Rattle.textarea_c_data.specs.Tables.{value_of_number}
 
 -- the numbers by which C names the shapes
@@ -19,4 +19,4 @@ cursor_shape_of = value_of_number cursor_shapes
 abbrev pub WritesBytes : Option (List ℕ) → ℕ → List ℕ → List ℕ → ℕ → Type 0
 WritesBytes argument status before after needed =
     MatchOption argument (status ≡ 6)
-    (λ bytes. (status ≡ 0 → (after ≡ copied_over before bytes) × (needed ≡ length bytes)) × (status ≢ 0 → status ≡ 2))
+    (λ bytes. (status ≡ 0 → IsCopiedOut before after needed bytes) × (status ≢ 0 → status ≡ 2))

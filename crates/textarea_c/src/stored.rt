@@ -1,5 +1,5 @@
-//! The pointers in handles, and what is behind them. Each handle has its own struct, since a struct
-//! that crosses to C can't be generic.
+//! The pointers in handles, and what is behind them. Each handle has its own struct, since neither a
+//! struct that crosses to C nor a field of one can be generic.
 ghost use Rattle.std.specs.Prelude.{◌≡◌, Option, Some, None, IsSome};
 ghost use Rattle.textarea_c.specs.declared.editor.Editor.{Editor};
 ghost use Rattle.textarea_c.specs.contracts.editor.Editor.{the_row as editor};

@@ -1,11 +1,15 @@
 -- How items are written into the slice of a caller.
-use Rattle.std.specs.Prelude.{ℕ, ◌+◌, List, [], ◌∷◌, ◌++◌, length, take, drop, min}
+use Rattle.std.specs.Prelude.{ℕ, ◌≡◌, ◌+◌, List, [], ◌∷◌, ◌++◌, length, take, drop, min}
 
 -- the items over the slice from its start on, as many as there is room for
 abbrev pub copied_over : {A : Type 0} → List A → List A → List A
 copied_over out [] = out
 copied_over [] (x ∷ items) = []
 copied_over (o ∷ out) (x ∷ items) = x ∷ copied_over out items
+
+-- the items are over the slice from its start on, and this is the number of all
+abbrev pub IsCopiedOut : {A : Type 0} → List A → List A → ℕ → List A → Type 0
+IsCopiedOut old new needed items = (new ≡ copied_over old items) × (needed ≡ length items)
 
 -- the items over the slice from this index on
 abbrev pub written_at : {A : Type 0} → ℕ → List A → List A → List A

@@ -1,6 +1,6 @@
 -- Lines, as C passes and gets them.
-use Rattle.std.specs.Prelude.{ℕ, ◌≡◌, List, length, map, Option, MatchOption, encode_utf8_all}
-use Rattle.textarea_c_data.specs.Copied.{copied_over}
+use Rattle.std.specs.Prelude.{ℕ, ◌≡◌, List, map, Option, MatchOption, encode_utf8_all}
+use Rattle.textarea_c_data.specs.Copied.{IsCopiedOut}
 
 -- the bytes of each line
 abbrev pub encoded_lines : List (List ℕ) → List (List ℕ)
@@ -8,7 +8,7 @@ encoded_lines rows = map encode_utf8_all rows
 
 -- the bytes of these characters are written, with their number
 abbrev pub AreCharactersOut : List ℕ → List ℕ → List ℕ → ℕ → Type 0
-AreCharactersOut characters old new needed = (new ≡ copied_over old (encode_utf8_all characters)) × (needed ≡ length (encode_utf8_all characters))
+AreCharactersOut characters old new needed = IsCopiedOut old new needed (encode_utf8_all characters)
 
 -- the bytes of the line are written, with their number, or the status says that there is no line
 abbrev pub IsLineOut : Option (List ℕ) → ℕ → List ℕ → List ℕ → ℕ → Type 0

@@ -1,7 +1,11 @@
 //! What is read from the slices of callers, and written into them.
-ghost use Rattle.std.specs.Prelude.{◌≡◌, ◌+◌, ◌<◌, ◌≤◌, [], ◌∷◌, MatchOption, length, option_map, chars, encode_utf8_all};
-ghost use Rattle.textarea_c_data.specs.Copied.{copied_over, written_at};
+ghost use Rattle.std.specs.Prelude.{◌≡◌, ◌+◌, ◌<◌, ◌≤◌, [], ◌∷◌, IfOk, MatchOption, OnErr, length, option_map, chars, encode_utf8_all, string_bytes};
+ghost use Rattle.textarea_c_data.specs.Copied.{IsCopiedOut, copied_over, written_at};
+ghost use Rattle.textarea_c_data.specs.Lines.{AreCharactersOut};
 ghost use Rattle.textarea_c_data.specs.Texts.{items_between, text_between, text_in};
+
+use crate::status::{OK, OUT_OF_MEMORY};
+use std::alloc::AllocError;
 
 /// Returns the text, if the bytes are UTF-8.
 pub fn text_of(bytes: &[u8]) -> Option<&str>
@@ -64,6 +68,33 @@ pub fn copied_text(text: &str, out: &mut [u8]) -> usize
     ensures out { out.new ≡ copied_over out.old (encode_utf8_all (chars text.now)) }
 {
     copied(text.as_bytes(), out)
+}
+
+/// Copies the first bytes, as many as there is room for, and returns the status ok; `needed` gets the
+/// number of all.
+pub fn copy_out(bytes: &[u8], out: &mut [u8], needed: &mut usize) -> u32
+    ensures ok { result ≡ 0 }
+    ensures bytes { IsCopiedOut out.old out.new needed.new bytes.now }
+{
+    *needed = copied(bytes, out);
+    OK
+}
+
+/// Copies the first bytes of a text, as many as there is room for, and returns the status: ok, and
+/// `needed` gets the number of all, or out of memory if there was none for the text.
+pub fn copy_made(made: Result<String, AllocError>, out: &mut [u8], needed: &mut usize) -> u32
+    ensures text { IfOk made (λ text. (result ≡ 0)
+        × AreCharactersOut (chars (string_bytes text)) out.old out.new needed.new) }
+    ensures unmade { OnErr made
+        ((result ≡ 2) × (out.new ≡ out.old) × (needed.new ≡ needed.old)) }
+{
+    match made {
+        Ok(text) => {
+            *needed = copied_text(text.as_str(), out);
+            OK
+        }
+        Err(_) => OUT_OF_MEMORY,
+    }
 }
 
 /// Copies the bytes of a text to an index of the slice and those after it, as many as there is room

@@ -89,12 +89,14 @@ impl Journal {
         ensures { IfOk result (λ bytes.
             AreRecordsOf self.now.is_begun self.now.text.items text.now bytes.items) }
     {
-        let payload = change_between(alloc, self.text.as_slice(), text)?;
+        let old = self.text.as_slice();
+        let payload = change_between(alloc, old, text)?;
         let last = record_of(alloc, payload.as_slice())?;
         if self.is_begun {
             return Ok(last);
         }
-        with_header(alloc, self.text.as_slice(), last.as_slice())
+        let record = last.as_slice();
+        with_header(alloc, old, record)
     }
 }
 

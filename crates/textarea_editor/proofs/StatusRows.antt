@@ -4,7 +4,7 @@ use Rattle.std.proofs.Math.Nat.{min-eq_left, min-eq_right}
 use Rattle.std.proofs.lemmas.Bool.{cases_lt}
 use Rattle.std.proofs.lemmas.Bool.Decides.{nat_tests}
 use Rattle.std.specs.Option.{option_map}
-use Rattle.textarea_editor.specs.StatusRow.{IsAskedBefore, IsAskedInRow, IsSpelled, at_left, line_of_words}
+use Rattle.textarea_editor.specs.StatusRow.{IsAskedBefore, IsAskedInRow, IsSpelled, at_left, is_from, line_of_words}
 use Rattle.textarea_editor.specs.declared.editor.Editor.{Editor}
 use Rattle.textarea_paint.proofs.RowAreaLemmas.{row_cell-outside}
 use Rattle.textarea_paint.specs.Row.{row_cell}
@@ -31,7 +31,7 @@ same_option change None h = refl
 same_option change (Some cell) h = ap Some (h cell)
 
 -- a drawn row changes no cell outside of it
-pub row_keeps : (rows : RowArea) (y : ℕ) (line : LineView) (old new : Buffer) → Changes old new (row_cell rows y line) → KeepsOutside (is_in_row rows.area y) old new
+row_keeps : (rows : RowArea) (y : ℕ) (line : LineView) (old new : Buffer) → Changes old new (row_cell rows y line) → KeepsOutside (is_in_row rows.area y) old new
 row_keeps rows y line old new changes =
     record {
       area = changes.area;
@@ -53,9 +53,19 @@ asked_outside editor row end test old new keeps other asked =
           (λ x h. subst (λ (y : ℕ). test x y ≡ false) (sym asked.row_is) (other x h)) asked.spelled;
     }
 
--- a cell before an area isn't in a row of it
-pub before_area : (area : Rect) (row end x y : ℕ) → end ≤ area.x → x < end → is_in_row area row x y ≡ false
-before_area area row end x y le lt = grind (arith, nat_tests)
+-- a cell that isn't from a column on isn't in a row of an area from there on
+before_area : (area : Rect) (row column x y : ℕ) → column ≤ area.x → is_from column x y ≡ false → is_in_row area row x y ≡ false
+before_area area row column x y le before = grind (arith, nat_tests)
+
+-- a row that is drawn from a column on changes no cell before it
+pub row_keeps_before : (rows : RowArea) (y column : ℕ) (line : LineView) (old new : Buffer) → column ≤ rows.area.x →
+    Changes old new (row_cell rows y line) → KeepsOutside (is_from column) old new
+row_keeps_before rows y column line old new le changes =
+    let keeps = row_keeps rows y line old new changes in
+    record { area = keeps.area; cells = λ x row before. keeps.cells x row (before_area rows.area y column x row le before) }
+
+pub before_column : (end column x y : ℕ) → end ≤ column → x < end → is_from column x y ≡ false
+before_column end column x y le lt = grind (arith, nat_tests)
 
 pub before_field : (area : Rect) (x y : ℕ) → x < area.x → contains area x y ≡ false
 before_field area x y lt = grind (arith, nat_tests)

@@ -1,6 +1,6 @@
 -- The bytes of a file and its lines.
 use Rattle.std.specs.Prelude.{ℕ, ◌-◌, ◌==◌, ◌&&◌, not, Bool, true, false, List, [], ◌∷◌, ◌++◌, length, slice_get, Option, None, Some, if◌then◌else◌, string_bytes, String}
-use Rattle.std.specs.List.{join_by, list_any}
+use Rattle.std.specs.List.{flat_map, join_by, list_any}
 use Rattle.std.specs.declared.alloc.Global.{Global}
 use Rattle.textarea_editor.specs.declared.file_text.LineEnd.{LineEnd}
 use Rattle.textarea_editor.specs.declared.file_text.LineEnd.TheVariants.{LineFeed, CarriageReturn}
@@ -10,6 +10,10 @@ use Rattle.textarea_editor.specs.declared.file_text.LineEnds.{LineEnds}
 abbrev pub end_bytes : LineEnd → List ℕ
 end_bytes LineFeed = 10 ∷ []
 end_bytes CarriageReturn = 13 ∷ 10 ∷ []
+
+-- the lines, with a line end after each
+abbrev pub closed_bytes : {Z : Type 0} → LineEnd → List (String Z) → List ℕ
+closed_bytes end lines = flat_map (λ line. string_bytes line ++ end_bytes end) lines
 
 -- the lines, with a line end between each two
 abbrev pub joined_bytes : {Z : Type 0} → LineEnd → List (String Z) → List ℕ

@@ -1,5 +1,5 @@
 -- The words of the status row, and how they are drawn.
-use Rattle.std.specs.Prelude.{◌≡◌, ◌<◌, ◌-◌, ◌++◌, ℕ, Bool, List, [], ◌∷◌, Option, None, Some, String, codes, if◌then◌else◌, length, min, nat_lt, string_bytes}
+use Rattle.std.specs.Prelude.{◌≡◌, ◌<◌, ◌-◌, ◌++◌, ℕ, Bool, List, [], ◌∷◌, Option, None, Some, String, codes, if◌then◌else◌, length, min, nat_le, nat_lt, string_bytes}
 use Rattle.std.specs.Option.{option_map}
 use Rattle.std.specs.Str.{chars}
 use Rattle.std.specs.declared.alloc.Global.{Global}
@@ -57,6 +57,10 @@ row_style = with_modifier empty_style (record { 0 = 64 })
 -- a line of words
 abbrev pub line_of_words : List ℕ → LineView
 line_of_words words = record { spans = record { content = OwnedBytes words; style = empty_style } ∷ []; style = empty_style }
+
+-- whether a cell is in this column or after it
+abbrev pub is_from : ℕ → ℕ → ℕ → Bool
+is_from column x y = nat_le column x
 
 -- words at the left of an area
 abbrev pub at_left : Rect → RowArea

@@ -5,7 +5,7 @@
 
 ghost use Rattle.std.specs.Prelude.{◌≡◌, ◌<◌, ◌==◌, ◌++◌, false, length, IfOk, IfSome, string_bytes};
 ghost use Rattle.std.specs.List.{list_any};
-ghost use Rattle.textarea_editor.specs.FileText.{end_bytes, file_bytes, has_returns, joined_bytes, last_end, line_end_of};
+ghost use Rattle.textarea_editor.specs.FileText.{closed_bytes, end_bytes, file_bytes, has_returns, joined_bytes, last_end, line_end_of};
 
 use std::alloc::{AllocError, Global};
 
@@ -85,13 +85,28 @@ pub fn lines_of(alloc: Global, text: &str, end: LineEnd) -> Result<Vec<String>, 
     ensures some { IfOk result (λ lines. 0 < length lines.items) }
 {
     let mut lines = Vec::new(alloc);
+    let rest = push_closed(alloc, &mut lines, text, end)?;
+    let last = String::from_str(alloc, rest)?;
+    lines.push(last)?;
+    Ok(lines)
+}
+
+// Adds the lines of a text that have a line end, and returns what is after the last of these.
+fn push_closed<'a>(
+    alloc: Global,
+    lines: &mut Vec<String>,
+    text: &'a str,
+    end: LineEnd,
+) -> Result<&'a str, AllocError>
+    ensures { IfOk result (λ rest. closed_bytes end lines.new.items ++ rest.now
+        ≡ closed_bytes end lines.old.items ++ text.now) }
+{
     let mut rest = text;
     while let Some((line, after)) = split_line(rest, end) {
         lines.push(String::from_str(alloc, line)?)?;
         rest = after;
     }
-    lines.push(String::from_str(alloc, rest)?)?;
-    Ok(lines)
+    Ok(rest)
 }
 
 /// Returns the bytes of a file with these lines.

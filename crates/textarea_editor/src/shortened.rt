@@ -59,6 +59,13 @@ fn push_ends(text: &mut String, start: &[char], end: &[char]) -> Result<(), Allo
         ≡ characters_of text.old ++ (start.now ++ 8230 ∷ end.now)) }
 {
     push_all(text, start)?;
+    push_cut(text, end)
+}
+
+// Adds an ellipsis, and a part after it.
+fn push_cut(text: &mut String, end: &[char]) -> Result<(), AllocError>
+    ensures { OnOk result (characters_of text.new ≡ characters_of text.old ++ 8230 ∷ end.now) }
+{
     text.push(ELLIPSIS)?;
     push_all(text, end)
 }

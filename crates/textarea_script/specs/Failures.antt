@@ -1,5 +1,5 @@
 -- The exit statuses of `tascript`.
-use Rattle.std.specs.Prelude.{ℕ, Result, Ok, Err}
+use Rattle.std.specs.Prelude.{ℕ, ◌<◌, ◌≤◌, Result, Ok, Err}
 use Rattle.textarea_script.specs.declared.streams.Failure.{Failure}
 use Rattle.textarea_script.specs.declared.streams.Failure.TheVariants.{Stream, Line, NotRead, Memory}
 
@@ -16,3 +16,9 @@ abbrev pub IsUnparsed : Failure → Type 0
 IsUnparsed (Line number) = Unit {0}
 IsUnparsed NotRead = Unit {0}
 IsUnparsed failure = ⊥
+
+-- the status of what was served: above 1 the output is as it was, and up to 1 the errors are
+pub record IsExit (status : ℕ) (same_output same_errors : Type 0) : Type 0 where
+  pub known : status ≤ 3
+  pub silent : 1 < status → same_output
+  pub quiet : status ≤ 1 → same_errors

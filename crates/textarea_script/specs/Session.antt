@@ -1,5 +1,5 @@
 -- Sessions: the inputs of a text's characters, and the printed text of their end.
-use Rattle.std.specs.Prelude.{◌≢◌, ℕ, false, ◌==◌, if◌then◌else◌, List, [], ◌++◌, codes, decimal, map, IsUtf8, Option}
+use Rattle.std.specs.Prelude.{◌≡◌, ◌≢◌, ℕ, IfSome, false, ◌==◌, if◌then◌else◌, List, [], ◌++◌, codes, decimal, map, IsUtf8, Option}
 use Rattle.std.specs.Io.{StartsWith}
 use Rattle.std.specs.Io.KnownBytes.{Appends}
 use Rattle.std.specs.Str.{chars}
@@ -71,3 +71,8 @@ pub record IsSessionWritten (old new : Option (List ℕ)) (bytes : List ℕ) : T
 -- the bytes are not UTF-8
 abbrev pub IsNoText : List ℕ → Type 0
 IsNoText bytes = ¬ (IsUtf8 bytes)
+
+-- the status of a session of a known input: after 0 it is written, after 2 the input is no text
+pub record IsSessionServed (status : ℕ) (input old new : Option (List ℕ)) : Type 0 where
+  pub done : status ≡ 0 → IfSome input (IsSessionWritten old new)
+  pub not_read : status ≡ 2 → IfSome input IsNoText

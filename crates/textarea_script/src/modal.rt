@@ -1,10 +1,9 @@
 //! Sessions of the modal editor. Each character of the input is a key.
-ghost use Rattle.std.specs.Prelude.{[], ◌≡◌, ◌≤◌, ◌<◌, ◌≢◌, IfErr, IfOk, IfSome, IsUtf8, OnOk, string_bytes};
+ghost use Rattle.std.specs.Prelude.{[], ◌≡◌, ◌≢◌, IfErr, IfOk, IfSome, IsUtf8, OnOk, string_bytes};
 ghost use Rattle.std.specs.Io.{StartsWith};
-ghost use Rattle.textarea_script.specs.Failures.{IsUnparsed};
-ghost use Rattle.textarea_script.specs.declared.streams.TheConstants.{DONE, UNPARSED, OUT_OF_MEMORY, STREAM_FAILED};
+ghost use Rattle.textarea_script.specs.Failures.{IsExit, IsUnparsed};
 ghost use Rattle.tui_textarea.specs.State.{new_state};
-ghost use Rattle.textarea_script.specs.Session.{IsNoText, IsPrinted, IsSessionWritten, input_of_character, inputs_of_text};
+ghost use Rattle.textarea_script.specs.Session.{IsNoText, IsPrinted, IsSessionServed, IsSessionWritten, input_of_character, inputs_of_text};
 
 mod head;
 
@@ -21,25 +20,17 @@ use tui_textarea::TextArea;
 
 /// Reads a text, takes its characters as inputs of a modal editor on an empty text area, and prints
 /// to `output` the mode, the number of used inputs, why the session ended, and the text area. The
-/// result is the exit status: `DONE`, `STREAM_FAILED`, `UNPARSED` or `OUT_OF_MEMORY`.
-///
-/// If the text isn't UTF-8 or memory runs out, `output` gets nothing, and `errors` gets one line
-/// with the reason; otherwise `errors` gets nothing. A failure of `errors` is ignored. If `output`
-/// fails, a prefix of the text is written. Out of memory inside a read or a write is a failure of
-/// that stream.
+/// result is the exit status, and with it what `output` and `errors` get, as of a script
+/// ([`script::serve`](crate::script::serve)); a text that isn't UTF-8 is unparsed.
 pub fn serve<R: Read, W: Write, E: Write>(
     alloc: Global,
     reader: &mut R,
     output: &mut W,
     errors: &mut E,
 ) -> u8
-    ensures status { result ≤ OUT_OF_MEMORY }
-    ensures silent { STREAM_FAILED < result → output.new ≡ output.old }
-    ensures quiet { result ≤ STREAM_FAILED → errors.new ≡ errors.old }
-    ensures done { result ≡ DONE →
-        IfSome (R.remaining reader.old)
-        (IsSessionWritten (W.contents output.old) (W.contents output.new)) }
-    ensures not_read { result ≡ UNPARSED → IfSome (R.remaining reader.old) IsNoText }
+    ensures exit { IsExit result (output.new ≡ output.old) (errors.new ≡ errors.old) }
+    ensures session { IsSessionServed result (R.remaining reader.old) (W.contents output.old)
+        (W.contents output.new) }
 {
     status(run_session(alloc, reader, output), errors)
 }

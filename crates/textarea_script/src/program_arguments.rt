@@ -1,9 +1,10 @@
 //! The whole of `tascript`, over any reader and two writers: a script, or a session of the modal
 //! editor, as the arguments say.
-ghost use Rattle.std.specs.Prelude.{◌≡◌, ◌≤◌, ◌<◌, ◌≢◌, IfSome, map, string_bytes};
+ghost use Rattle.std.specs.Prelude.{◌≡◌, ◌≢◌, map, string_bytes};
 ghost use Rattle.std.specs.IoError.{error_kind};
-ghost use Rattle.textarea_script.specs.Session.{IsNoText, IsSessionWritten};
-ghost use Rattle.textarea_script.specs.declared.streams.TheConstants.{DONE, UNPARSED, OUT_OF_MEMORY, STREAM_FAILED};
+ghost use Rattle.textarea_script.specs.Failures.{IsExit};
+ghost use Rattle.textarea_script.specs.Session.{IsSessionServed};
+ghost use Rattle.textarea_script.specs.declared.streams.TheConstants.{UNPARSED, OUT_OF_MEMORY};
 ghost use Rattle.textarea_script.specs.ProgramArguments.{AskForNothing, AskForSession, IsAsked};
 
 use crate::streams::{Failure, status};
@@ -34,14 +35,9 @@ pub fn serve_arguments<R: Read, W: Write, E: Write>(
     output: &mut W,
     errors: &mut E,
 ) -> u8
-    ensures status { result ≤ OUT_OF_MEMORY }
-    ensures silent { STREAM_FAILED < result → output.new ≡ output.old }
-    ensures quiet { result ≤ STREAM_FAILED → errors.new ≡ errors.old }
-    ensures session_done { AskForSession (map string_bytes words.now) → result ≡ DONE →
-        IfSome (R.remaining reader.old)
-        (IsSessionWritten (W.contents output.old) (W.contents output.new)) }
-    ensures session_not_read { AskForSession (map string_bytes words.now) → result ≡ UNPARSED →
-        IfSome (R.remaining reader.old) IsNoText }
+    ensures exit { IsExit result (output.new ≡ output.old) (errors.new ≡ errors.old) }
+    ensures session { AskForSession (map string_bytes words.now) → IsSessionServed result
+        (R.remaining reader.old) (W.contents output.old) (W.contents output.new) }
     ensures not_understood { AskForNothing (map string_bytes words.now) →
         (result ≡ UNPARSED) × (reader.new ≡ reader.old) }
 {

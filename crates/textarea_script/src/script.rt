@@ -1,6 +1,6 @@
 //! Scripts: calls on a text area, one command per line.
-ghost use Rattle.std.specs.Prelude.{◌≡◌, ◌≤◌, ◌<◌, ◌≢◌, IfErr};
-ghost use Rattle.textarea_script.specs.declared.streams.TheConstants.{OUT_OF_MEMORY, STREAM_FAILED};
+ghost use Rattle.std.specs.Prelude.{◌≡◌, ◌≢◌, IfErr};
+ghost use Rattle.textarea_script.specs.Failures.{IsExit};
 
 use crate::streams::{Failure, read_whole, status, write_whole};
 use std::alloc::{AllocError, Global};
@@ -35,9 +35,7 @@ pub fn serve<R: Read, W: Write, E: Write>(
     output: &mut W,
     errors: &mut E,
 ) -> u8
-    ensures status { result ≤ OUT_OF_MEMORY }
-    ensures silent { STREAM_FAILED < result → output.new ≡ output.old }
-    ensures quiet { result ≤ STREAM_FAILED → errors.new ≡ errors.old }
+    ensures { IsExit result (output.new ≡ output.old) (errors.new ≡ errors.old) }
 {
     status(run_script(alloc, reader, output), errors)
 }

@@ -448,11 +448,13 @@ fn first_character(text: &str) -> Option<(char, &str)>
         (λ x. first_character text.now ≡ Some (x.0, x.1.now)) }
     ensures shorter { IfSome result (λ x. length x.1.now < length text.now) }
 {
-    let mut rest = text.chars();
-    match rest.next()? {
-        '\\' => escaped_character(rest.as_str()),
-        c => Some((c, rest.as_str())),
+    let mut characters = text.chars();
+    let first = characters.next()?;
+    let rest = characters.as_str();
+    if first == '\\' {
+        return escaped_character(rest);
     }
+    Some((first, rest))
 }
 
 // The character of an escape, and the text after it. The argument is the text after the backslash.

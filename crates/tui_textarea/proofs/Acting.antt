@@ -194,7 +194,7 @@ module _ (By Own : Fact) (by : Reckoning By) (past : Past Own) where
       given _ (kept By by old.document (state_after old call.EndUndoGroup).document refl (sound_ended old.document h))
   by_state old call.EndRun h =
       given _ (kept By by old.document (state_after old call.EndRun).document refl
-      (record { cursor = h.cursor; anchor = h.anchor; ranges = h.ranges; in_order = h.in_order; undo = h.undo; redo = h.redo; bounded = h.bounded; marks = h.marks; whole = h.whole }))
+      (sound_at old.document old.document.cursor old.document.anchor h h.cursor h.anchor))
   by_state old (call.Input input) h = (tt, λ can. h)
   by_state old (call.InputWithoutShortcuts input) h = (tt, λ can. h)
   by_state old (call.SetLines items cursor) h =

@@ -20,7 +20,7 @@ use Rattle.textarea_document.specs.DocumentState.{DocumentState}
 use Rattle.textarea_document.specs.Outcomes.{after_move, unanchored}
 use Rattle.textarea_document.specs.Sound.{IsSound}
 use Rattle.textarea_document.proofs.Ranges.{anchor_place}
-use Rattle.textarea_document.proofs.Sounds.{resound}
+use Rattle.textarea_document.proofs.Sounds.{resound, sound_otherwise}
 use Rattle.tui_textarea.specs.Calls.{rejected_ranges, with_ranges_if}
 use Rattle.textarea_history.specs.declared.history.groups.Group.{Group}
 use Rattle.tui_textarea.specs.Grouping.{with_group}
@@ -31,62 +31,26 @@ use Rattle.tui_textarea.proofs.Targets.{clip_is_place}
 
 pub sound_at : (document : DocumentState) (cursor : Place) (anchor : Option Place) → IsSound document → IsPlace document.text cursor
     → IfSome anchor (IsPlace document.text) → IsSound (after_move document cursor anchor)
-sound_at document cursor anchor h at from = record {
-  cursor = at;
-  anchor = from;
-  ranges = h.ranges;
-  in_order = h.in_order;
-  undo = h.undo;
-  redo = h.redo;
-  bounded = h.bounded;
-  marks = h.marks;
-  whole = h.whole;
-}
+sound_at document cursor anchor h at from = sound_otherwise document document.layout cursor anchor false document.log.group document.changes h at from
 
 pub sound_from : (document : DocumentState) (anchor : Option Place) → IsSound document → IfSome anchor (IsPlace document.text)
     → IsSound (record document { anchor = anchor })
-sound_from document anchor h from = record {
-  cursor = h.cursor;
-  anchor = from;
-  ranges = h.ranges;
-  in_order = h.in_order;
-  undo = h.undo;
-  redo = h.redo;
-  bounded = h.bounded;
-  marks = h.marks;
-  whole = h.whole;
-}
+sound_from document anchor h from = sound_otherwise document document.layout document.cursor anchor document.log.run_open document.log.group document.changes h h.cursor from
 
 -- which group is open has no influence on it
 pub sound_in_group : (state : State) (group : Group) → IsSound state.document → IsSound (with_group state group).document
-sound_in_group state group h = record {
-  cursor = h.cursor;
-  anchor = h.anchor;
-  ranges = h.ranges;
-  in_order = h.in_order;
-  undo = h.undo;
-  redo = h.redo;
-  bounded = h.bounded;
-  marks = h.marks;
-  whole = h.whole;
-}
+sound_in_group state group h =
+    let document = state.document in sound_otherwise document document.layout document.cursor document.anchor document.log.run_open group document.changes h h.cursor h.anchor
 
 pub sound_unanchored : (document : DocumentState) → IsSound document → IsSound (unanchored document)
 sound_unanchored document h = sound_from document None h tt
 
 pub sound_cursor : (document : DocumentState) (bias : AtomicCursorBias) → IsSound document
     → IsSound (record document { cursor = moved_out document.ranges document.cursor bias })
-sound_cursor document bias h = record {
-  cursor = IsPlaceOf-moved_out (lines document.text) document.ranges document.cursor bias h.ranges h.cursor;
-  anchor = h.anchor;
-  ranges = h.ranges;
-  in_order = h.in_order;
-  undo = h.undo;
-  redo = h.redo;
-  bounded = h.bounded;
-  marks = h.marks;
-  whole = h.whole;
-}
+sound_cursor document bias h =
+    let cursor = moved_out document.ranges document.cursor bias in
+    sound_otherwise document document.layout cursor document.anchor document.log.run_open document.log.group document.changes h
+    (IsPlaceOf-moved_out (lines document.text) document.ranges document.cursor bias h.ranges h.cursor) h.anchor
 
 pub clipped : (text : List Symbol) (anchor : Option Place) → 0 < length (lines text) → IfSome (option_map (clip (lines text)) anchor) (IsPlace text)
 clipped text None some = tt

@@ -1,8 +1,10 @@
 //! Lines, and the history of their edits.
-ghost use Rattle.std.specs.Prelude.{◌≡◌, ◌<◌, ◌≤◌, vec_len, length, IfOk, IfSome};
+ghost use Rattle.std.specs.Prelude.{◌≡◌, ◌<◌, ◌≤◌, vec_len, length, IfOk, IfSome, OnErr, OnOk};
+ghost use Rattle.std.specs.Duration.{as_nanos};
 ghost use Rattle.textarea_text.specs.Text.{text_of};
 ghost use Rattle.textarea_text.specs.Place.{end};
 ghost use Rattle.textarea_history.specs.Edit.{IsWellFormed, end_of_kind, line_count_of, splice_of, symbols_of};
+ghost use Rattle.textarea_history.specs.Log.{recorded};
 ghost use Rattle.memory_cases.specs.Ready.{IsEditReady};
 
 use crate::history::calls::{Edit as Wanted, Place, Typed};
@@ -97,9 +99,7 @@ impl Recorded {
         let edit = edit_of(plan)?;
         let mut lines = copied(self.lines.as_slice(), *self.lines.allocator())?;
         edit.redo(&mut lines)?;
-        self.history.push(edit, typed.coalesce, typed.now)?;
-        self.lines = lines;
-        Ok(())
+        replace(&mut self.lines, &mut self.history, lines, edit, typed)
     }
 
     /// Makes an insertion on a copy of the lines, and undoes it there.
@@ -127,6 +127,25 @@ fn edit_of(plan: &Plan) -> Result<Edit, AllocError>
     let before = Pos::new(plan.before.0, plan.before.1, 0);
     let after = Pos::new(plan.after.0, plan.after.1, 0);
     Ok(Edit::new(kind, before, after))
+}
+
+// Puts lines in place of others, and records the edit that made them. If memory runs out, nothing
+// changes.
+fn replace(
+    lines: &mut Vec<String>,
+    history: &mut History,
+    made: Vec<String>,
+    edit: Edit,
+    typed: Typed,
+) -> Result<(), AllocError>
+    requires { IsWellFormed edit }
+    ensures ok { OnOk result ((lines.new ≡ made) × (history.new.log
+        ≡ recorded history.old.log edit.splice typed.coalesce (as_nanos typed.now))) }
+    ensures err { OnErr result ((lines.new ≡ lines.old) × (history.new.log ≡ history.old.log)) }
+{
+    history.push(edit, typed.coalesce, typed.now)?;
+    *lines = made;
+    Ok(())
 }
 
 fn make_and_undo(lines: &[String], alloc: Global, plan: &Plan) -> Result<BothWays, AllocError>

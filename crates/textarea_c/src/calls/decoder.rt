@@ -1,15 +1,15 @@
 //! The bytes that a terminal sends, as events.
-ghost use Rattle.std.specs.Prelude.{◌≡◌, ◌≢◌, IfSome, length};
+ghost use Rattle.std.specs.Prelude.{◌≡◌, ◌≢◌, IfSome};
 ghost use Rattle.textarea_terminal.specs.InputState.{asked, fed, on_console, paused, resizing};
 ghost use Rattle.textarea_c.specs.Calls.{Calls, OnlyReads};
 ghost use Rattle.textarea_c.specs.Terminals.{Decodes, IsTold, TakesEvent};
-ghost use Rattle.textarea_c_data.specs.Copied.{copied_over};
+ghost use Rattle.textarea_c_data.specs.Copied.{IsCopiedOut};
 
 use crate::calls::on;
 use crate::handle::TerminalHandle;
 use std::alloc::Global;
 use textarea_c_data::event::CEvent;
-use textarea_c_data::slices::copied;
+use textarea_c_data::slices::copy_out;
 use textarea_c_data::status::{FALSE, OK, done};
 
 /// Decodes the next bytes that the terminal sent, however they are split; `ta_decoder_event` takes
@@ -81,14 +81,10 @@ pub extern "C" fn ta_decoder_pasted(
     ensures unchanged { Calls terminal.old.stored.content result terminal.new.stored.content
         (λ a b. OnlyReads result a b) }
     ensures text { IfSome terminal.old.stored.content
-        (λ a. (out.new ≡ copied_over out.old a.incoming.pasted)
-        × (needed.new ≡ length a.incoming.pasted)) }
+        (λ a. IsCopiedOut out.old out.new needed.new a.incoming.pasted) }
     ensures unwritten { result ≢ 0 → (out.new ≡ out.old) × (needed.new ≡ needed.old) }
 {
-    on!(terminal, alloc, behind => {
-        *needed = copied(behind.incoming.pasted().as_bytes(), out);
-        OK
-    })
+    on!(terminal, alloc, behind => copy_out(behind.incoming.pasted().as_bytes(), out, needed))
 }
 
 /// Tells that a query was sent whose reply is a size (`ESC [ 18 t`) or the cursor's position

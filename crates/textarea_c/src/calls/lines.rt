@@ -6,7 +6,7 @@ ghost use Rattle.textarea_text.specs.Text.{lines, lines_of};
 ghost use Rattle.textarea_util.specs.Limit.{size_limit};
 ghost use Rattle.textarea_c.specs.Calls.{Asks, Calls, ChangesIf, Copies, OnlyReads};
 ghost use Rattle.textarea_c.specs.Lines.{with_copied_lines};
-ghost use Rattle.textarea_c_data.specs.Copied.{ends_of, copied_over};
+ghost use Rattle.textarea_c_data.specs.Copied.{IsCopiedOut, ends_of, copied_over};
 ghost use Rattle.textarea_c_data.specs.Lines.{AreCharactersOut, IsLineOut, encoded_lines};
 ghost use Rattle.textarea_c_data.specs.Split.{lines_between};
 ghost use Rattle.textarea_c_data.specs.Texts.{some_of};
@@ -16,7 +16,7 @@ use crate::editor::Editor;
 use crate::handle::Handle;
 use std::alloc::Global;
 use textarea_c_data::lines::{copy_line, read_lines, write_lines};
-use textarea_c_data::slices::copied_text;
+use textarea_c_data::slices::copy_made;
 use textarea_c_data::status::{INVALID_ARGUMENT, OK, OUT_OF_MEMORY, done, truth};
 
 /// Replaces all lines, and moves the cursor to the position in them that is nearest to `row` and
@@ -118,8 +118,8 @@ pub extern "C" fn ta_lines(
     ensures count { IfSome handle.old.stored.content
         (λ a. count.new ≡ length (lines a.area.document.text)) }
     ensures bytes { IfSome handle.old.stored.content
-        (λ a. (out.new ≡ copied_over out.old (concat (encoded_lines (lines a.area.document.text))))
-        × (needed.new ≡ length (concat (encoded_lines (lines a.area.document.text))))) }
+        (λ a. IsCopiedOut out.old out.new needed.new
+        (concat (encoded_lines (lines a.area.document.text)))) }
     ensures ends { IfSome handle.old.stored.content
         (λ a. ends.new ≡ copied_over ends.old (ends_of 0 (encoded_lines (lines a.area.document.text)))) }
     ensures some { result ≡ 0 → 0 < count.new }
@@ -152,13 +152,7 @@ pub extern "C" fn ta_text(
         (λ a. AreCharactersOut (fragment_text a.area.document.text) out.old out.new needed.new) }
     ensures unwritten { result ≢ 0 → (out.new ≡ out.old) × (needed.new ≡ needed.old) }
 {
-    on!(handle, alloc, editor => match editor.area.text() {
-        Ok(text) => {
-            *needed = copied_text(text.as_str(), out);
-            OK
-        }
-        Err(_) => OUT_OF_MEMORY,
-    })
+    on!(handle, alloc, editor => copy_made(editor.area.text(), out, needed))
 }
 
 /// Returns whether the text is one empty line.

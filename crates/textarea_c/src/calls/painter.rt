@@ -1,8 +1,8 @@
 //! Frames on a terminal.
-ghost use Rattle.std.specs.Prelude.{◌≡◌, ◌≢◌, IfSome, MatchOption, length};
+ghost use Rattle.std.specs.Prelude.{◌≡◌, ◌≢◌, IfSome, MatchOption};
 ghost use Rattle.textarea_c.specs.Calls.{Calls, Given, OnlyReads};
 ghost use Rattle.textarea_c.specs.Terminals.{HasColors, IsUnpainted, PaintsScreen, Resizes, passed_caret};
-ghost use Rattle.textarea_c_data.specs.Copied.{copied_over};
+ghost use Rattle.textarea_c_data.specs.Copied.{IsCopiedOut};
 ghost use Rattle.textarea_c_data.specs.Numbers.{colors_of};
 
 use crate::calls::on;
@@ -12,7 +12,7 @@ use crate::terminal::Terminal;
 use std::alloc::Global;
 use textarea_c_data::area::Area;
 use textarea_c_data::numbers::read_colors;
-use textarea_c_data::slices::copied;
+use textarea_c_data::slices::copy_out;
 use textarea_c_data::status::{INVALID_ARGUMENT, OK, done};
 use textarea_screen::screen::Position;
 
@@ -88,14 +88,10 @@ pub extern "C" fn ta_painter_bytes(
     ensures unchanged { Calls terminal.old.stored.content result terminal.new.stored.content
         (λ a b. OnlyReads result a b) }
     ensures bytes { IfSome terminal.old.stored.content
-        (λ a. (out.new ≡ copied_over out.old a.outgoing.bytes)
-        × (needed.new ≡ length a.outgoing.bytes)) }
+        (λ a. IsCopiedOut out.old out.new needed.new a.outgoing.bytes) }
     ensures unwritten { result ≢ 0 → (out.new ≡ out.old) × (needed.new ≡ needed.old) }
 {
-    on!(terminal, alloc, behind => {
-        *needed = copied(behind.outgoing.bytes(), out);
-        OK
-    })
+    on!(terminal, alloc, behind => copy_out(behind.outgoing.bytes(), out, needed))
 }
 
 /// Forgets what the terminal shows, and its modes, as after another program has written to it. The

@@ -14,7 +14,7 @@ use crate::calls::on;
 use crate::editor::Editor;
 use crate::handle::Handle;
 use std::alloc::Global;
-use textarea_c_data::slices::{copied_text, text_of};
+use textarea_c_data::slices::{copy_made, text_of};
 use textarea_c_data::status::{INVALID_ARGUMENT, OK, OUT_OF_MEMORY, flag};
 
 /// Returns the text between two positions, in either order, with a line feed for each line break.
@@ -40,15 +40,9 @@ pub extern "C" fn ta_text_range(
         (from_row, from_column) (to_row, to_column))) out.old out.new needed.new) }
     ensures unwritten { result ≢ 0 → (out.new ≡ out.old) × (needed.new ≡ needed.old) }
 {
-    on!(handle, alloc, editor => match editor
-        .area
-        .text_range((from_row, from_column), (to_row, to_column))
-    {
-        Ok(text) => {
-            *needed = copied_text(text.as_str(), out);
-            OK
-        }
-        Err(_) => OUT_OF_MEMORY,
+    on!(handle, alloc, editor => {
+        let text = editor.area.text_range((from_row, from_column), (to_row, to_column));
+        copy_made(text, out, needed)
     })
 }
 

@@ -14,9 +14,9 @@ ghost use Rattle.tui_textarea.specs.Rendered.{IsDrawn};
 ghost use Rattle.textarea_c_data.specs.Areas.{IsArea};
 ghost use Rattle.textarea_c.specs.Calls.{Asks, Calls, Given, ChangesScreen, OnlyReads, Restyles};
 ghost use Rattle.textarea_c_data.specs.Cells.{plain_cell, plain_cells};
-ghost use Rattle.textarea_c_data.specs.Copied.{copied_over};
 ghost use Rattle.textarea_c.specs.Drawn.{IsStyledIn};
 ghost use Rattle.textarea_c.specs.Rendered.{IsRenderedIn};
+ghost use Rattle.textarea_c_data.specs.Copied.{IsCopiedOut};
 ghost use Rattle.textarea_c_data.specs.Styles.{style_of_numbers};
 ghost use Rattle.textarea_c_data.specs.Texts.{text_in};
 
@@ -26,7 +26,7 @@ use crate::handle::Handle;
 use std::alloc::Global;
 use textarea_c_data::area::Area;
 use textarea_c_data::cell::{CCell, write_cells};
-use textarea_c_data::slices::{copied, text_of};
+use textarea_c_data::slices::{copy_out, text_of};
 use textarea_c_data::status::{FALSE, INVALID_ARGUMENT, OK, OUT_OF_MEMORY, done};
 use textarea_c_data::style::CStyle;
 use textarea_screen::screen;
@@ -195,14 +195,11 @@ pub extern "C" fn ta_screen_symbol(
         (λ a b. Asks result a b) }
     ensures text { IfSome handle.old.stored.content
         (λ a. MatchOption (cell_at a.screen x y) (result ≡ 1) (λ cell. (result ≡ 0)
-        × (out.new ≡ copied_over out.old cell.symbol) × (needed.new ≡ length cell.symbol))) }
+        × IsCopiedOut out.old out.new needed.new cell.symbol)) }
     ensures unwritten { result ≢ 0 → (out.new ≡ out.old) × (needed.new ≡ needed.old) }
 {
     on!(handle, alloc, editor => match editor.screen.cell(x, y) {
-        Some(found) => {
-            *needed = copied(found.symbol().as_bytes(), out);
-            OK
-        }
+        Some(found) => copy_out(found.symbol().as_bytes(), out, needed),
         None => FALSE,
     })
 }
@@ -221,8 +218,7 @@ pub extern "C" fn ta_screen_cells(
     ensures unchanged { Calls handle.old.stored.content result handle.new.stored.content
         (λ a b. OnlyReads result a b) }
     ensures cells { IfSome handle.old.stored.content
-        (λ a. (out.new ≡ copied_over out.old (plain_cells a.screen))
-        × (needed.new ≡ length (plain_cells a.screen))) }
+        (λ a. IsCopiedOut out.old out.new needed.new (plain_cells a.screen)) }
     ensures unwritten { result ≢ 0 → (out.new ≡ out.old) × (needed.new ≡ needed.old) }
 {
     on!(handle, alloc, editor => {

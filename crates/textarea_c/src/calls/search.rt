@@ -1,17 +1,17 @@
 //! The search pattern, and the searches for it.
-ghost use Rattle.std.specs.Prelude.{◌≡◌, ◌≢◌, ◌<◌, IfSome, MatchOption, None, Some, is_some, length, string_bytes};
+ghost use Rattle.std.specs.Prelude.{◌≡◌, ◌≢◌, ◌<◌, IfSome, MatchOption, None, Some, is_some, string_bytes};
 ghost use Rattle.textarea_text.specs.Place.{IsPlace};
 ghost use Rattle.tui_textarea.specs.Search.{match_count, match_index, next_match, previous_match, after_search};
 ghost use Rattle.textarea_c.specs.Calls.{Asks, Calls, Copies, FindsText, Given, Patterns, OnlyReads, Searches};
 ghost use Rattle.textarea_c.specs.Rejections.{IsRejection};
-ghost use Rattle.textarea_c_data.specs.Copied.{copied_over};
+ghost use Rattle.textarea_c_data.specs.Copied.{IsCopiedOut};
 ghost use Rattle.textarea_c_data.specs.Texts.{text_in};
 
 use crate::calls::on;
 use crate::editor::Editor;
 use crate::handle::Handle;
 use std::alloc::Global;
-use textarea_c_data::slices::{copied, text_of};
+use textarea_c_data::slices::{copy_out, text_of};
 use textarea_c_data::status::{FALSE, INVALID_ARGUMENT, OK, OUT_OF_MEMORY, PATTERN_REJECTED, flag};
 use textarea_search::error::SearchError;
 
@@ -181,14 +181,10 @@ pub extern "C" fn ta_pattern_error(
     ensures unchanged { Calls handle.old.stored.content result handle.new.stored.content
         (λ a b. OnlyReads result a b) }
     ensures text { IfSome handle.old.stored.content
-        (λ a. (out.new ≡ copied_over out.old (string_bytes a.pattern_error))
-        × (needed.new ≡ length (string_bytes a.pattern_error))) }
+        (λ a. IsCopiedOut out.old out.new needed.new (string_bytes a.pattern_error)) }
     ensures unwritten { result ≢ 0 → (out.new ≡ out.old) × (needed.new ≡ needed.old) }
 {
-    on!(handle, alloc, editor => {
-        *needed = copied(editor.pattern_error.as_bytes(), out);
-        OK
-    })
+    on!(handle, alloc, editor => copy_out(editor.pattern_error.as_bytes(), out, needed))
 }
 
 /// Returns the text of the search pattern. `out` gets the first of its bytes, as many as there is
@@ -206,14 +202,11 @@ pub extern "C" fn ta_search_pattern(
         (λ a b. Asks result a b) }
     ensures text { IfSome handle.old.stored.content
         (λ a. MatchOption a.area.pattern (result ≡ 1) (λ text. (result ≡ 0)
-        × (out.new ≡ copied_over out.old text) × (needed.new ≡ length text))) }
+        × IsCopiedOut out.old out.new needed.new text)) }
     ensures unwritten { result ≢ 0 → (out.new ≡ out.old) × (needed.new ≡ needed.old) }
 {
     on!(handle, alloc, editor => match editor.area.search_pattern() {
-        Some(text) => {
-            *needed = copied(text.as_bytes(), out);
-            OK
-        }
+        Some(text) => copy_out(text.as_bytes(), out, needed),
         None => FALSE,
     })
 }

@@ -11,8 +11,8 @@ ghost use Rattle.textarea_c_data.specs.Texts.{text_in};
 use crate::calls::on;
 use crate::handle::Handle;
 use std::alloc::Global;
-use textarea_c_data::slices::{copied_text, text_of};
-use textarea_c_data::status::{FALSE, INVALID_ARGUMENT, OK, OUT_OF_MEMORY, done, truth};
+use textarea_c_data::slices::{copy_made, text_of};
+use textarea_c_data::status::{FALSE, INVALID_ARGUMENT, OK, done, truth};
 
 /// Returns whether a selection is open, even an empty one.
 ///
@@ -77,13 +77,7 @@ pub extern "C" fn ta_yank_text(
         (λ a. AreCharactersOut (fragment_text a.area.yank) out.old out.new needed.new) }
     ensures unwritten { result ≢ 0 → (out.new ≡ out.old) × (needed.new ≡ needed.old) }
 {
-    on!(handle, alloc, editor => match editor.area.yank_text() {
-        Ok(text) => {
-            *needed = copied_text(text.as_str(), out);
-            OK
-        }
-        Err(_) => OUT_OF_MEMORY,
-    })
+    on!(handle, alloc, editor => copy_made(editor.area.yank_text(), out, needed))
 }
 
 /// Sets the text that `ta_paste` inserts. Each line feed becomes a line break; a carriage return

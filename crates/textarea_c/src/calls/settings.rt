@@ -1,14 +1,13 @@
 //! Options of tabs, line numbers and heights.
-ghost use Rattle.std.specs.Prelude.{◌≡◌, ◌≢◌, IfSome, length};
+ghost use Rattle.std.specs.Prelude.{◌≡◌, ◌≢◌, IfSome};
 ghost use Rattle.tui_textarea.specs.LayoutCalls.{indent_of};
 ghost use Rattle.textarea_c.specs.Calls.{Calls, OnlyReads};
-ghost use Rattle.textarea_c_data.specs.Copied.{copied_over};
+ghost use Rattle.textarea_c_data.specs.Copied.{IsCopiedOut};
 
 use crate::calls::on;
 use crate::handle::Handle;
 use std::alloc::Global;
-use textarea_c_data::slices::copied;
-use textarea_c_data::status::OK;
+use textarea_c_data::slices::copy_out;
 
 /// Returns a tab at a line's start: a tab character, or a space for each column of its length.
 /// `out` gets the first of its bytes, as many as there is room for, and `needed` the number of all.
@@ -24,12 +23,8 @@ pub extern "C" fn ta_indent(
     ensures unchanged { Calls handle.old.stored.content result handle.new.stored.content
         (λ a b. OnlyReads result a b) }
     ensures text { IfSome handle.old.stored.content
-        (λ a. (out.new ≡ copied_over out.old (indent_of a.area))
-        × (needed.new ≡ length (indent_of a.area))) }
+        (λ a. IsCopiedOut out.old out.new needed.new (indent_of a.area)) }
     ensures unwritten { result ≢ 0 → (out.new ≡ out.old) × (needed.new ≡ needed.old) }
 {
-    on!(handle, alloc, editor => {
-        *needed = copied(editor.area.indent().as_bytes(), out);
-        OK
-    })
+    on!(handle, alloc, editor => copy_out(editor.area.indent().as_bytes(), out, needed))
 }

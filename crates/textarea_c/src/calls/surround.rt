@@ -6,7 +6,7 @@ ghost use Rattle.textarea_view.specs.SurroundState.{first_bytes, style_with_line
 ghost use Rattle.textarea_view.specs.Outcomes.{with_placeholder_style, with_placeholder_text};
 ghost use Rattle.tui_textarea.specs.Measure.{with_surround};
 ghost use Rattle.textarea_c.specs.Calls.{Asks, Calls, ChangesBy, ChangesIf, OnlyReads, Sets, SetsBy, with_block, with_placeholder_view};
-ghost use Rattle.textarea_c_data.specs.Copied.{copied_over};
+ghost use Rattle.textarea_c_data.specs.Copied.{IsCopiedOut, copied_over};
 ghost use Rattle.textarea_c_data.specs.Spans.{AreSpansOut, block_read, block_for_c, line_for_c, spans_of, text_read, title_spans};
 ghost use Rattle.textarea_c_data.specs.Styles.{style_of_numbers};
 ghost use Rattle.textarea_c_data.specs.Texts.{text_in};
@@ -16,7 +16,7 @@ use crate::editor::Editor;
 use crate::handle::Handle;
 use std::alloc::Global;
 use textarea_c_data::read_styled::{read_block, read_text};
-use textarea_c_data::slices::{copied, text_of};
+use textarea_c_data::slices::{copy_out, text_of};
 use textarea_c_data::spans::{CBlock, CLine, CSpan};
 use textarea_c_data::status::{FALSE, INVALID_ARGUMENT, OK, OUT_OF_MEMORY, done};
 use textarea_c_data::style::CStyle;
@@ -244,14 +244,11 @@ pub extern "C" fn ta_placeholder_text(
     ensures unchanged { Calls handle.old.stored.content result handle.new.stored.content
         (λ a b. OnlyReads result a b) }
     ensures text { IfSome handle.old.stored.content
-        (λ a. (out.new ≡ copied_over out.old (first_bytes a.area.surround.placeholder.lines))
-        × (needed.new ≡ length (first_bytes a.area.surround.placeholder.lines))) }
+        (λ a. IsCopiedOut out.old out.new needed.new
+        (first_bytes a.area.surround.placeholder.lines)) }
     ensures unwritten { result ≢ 0 → (out.new ≡ out.old) × (needed.new ≡ needed.old) }
 {
-    on!(handle, alloc, editor => {
-        *needed = copied(editor.area.placeholder_text().as_bytes(), out);
-        OK
-    })
+    on!(handle, alloc, editor => copy_out(editor.area.placeholder_text().as_bytes(), out, needed))
 }
 
 /// Returns the style of the placeholder.

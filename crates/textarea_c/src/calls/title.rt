@@ -1,8 +1,8 @@
 //! The shape of a terminal's cursor, and the title of its window.
-ghost use Rattle.std.specs.Prelude.{◌≡◌, ◌≢◌, OnOk, OnErr, length, option_map};
+ghost use Rattle.std.specs.Prelude.{◌≡◌, ◌≢◌, OnOk, OnErr, option_map};
 ghost use Rattle.textarea_terminal.specs.Title.{cursor_shape_bytes, title_bytes};
 ghost use Rattle.textarea_c.specs.Titles.{WritesBytes, cursor_shape_of};
-ghost use Rattle.textarea_c_data.specs.Copied.{copied_over};
+ghost use Rattle.textarea_c_data.specs.Copied.{IsCopiedOut};
 ghost use Rattle.textarea_c_data.specs.Texts.{text_in};
 
 use std::alloc::{AllocError, Global};
@@ -55,8 +55,7 @@ fn write_shape(
     out: &mut [u8],
     needed: &mut usize,
 ) -> Result<(), AllocError>
-    ensures ok { OnOk result ((out.new ≡ copied_over out.old (cursor_shape_bytes shape))
-        × (needed.new ≡ length (cursor_shape_bytes shape))) }
+    ensures ok { OnOk result (IsCopiedOut out.old out.new needed.new (cursor_shape_bytes shape)) }
     ensures err { OnErr result ((out.new ≡ out.old) × (needed.new ≡ needed.old)) }
 {
     let mut bytes = Vec::new(alloc);
@@ -94,8 +93,7 @@ fn write_title(
     out: &mut [u8],
     needed: &mut usize,
 ) -> Result<(), AllocError>
-    ensures ok { OnOk result ((out.new ≡ copied_over out.old (title_bytes title.now))
-        × (needed.new ≡ length (title_bytes title.now))) }
+    ensures ok { OnOk result (IsCopiedOut out.old out.new needed.new (title_bytes title.now)) }
     ensures err { OnErr result ((out.new ≡ out.old) × (needed.new ≡ needed.old)) }
 {
     let mut bytes = Vec::new(alloc);

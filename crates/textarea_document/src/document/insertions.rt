@@ -95,8 +95,9 @@ impl Document {
 pub fn has_symbol(fragment_lines: &[String]) -> bool
     ensures { result ≡ has_symbols (text_of fragment_lines.now) }
 {
-    if fragment_lines.is_empty() {
-        return false;
+    match fragment_lines {
+        [] => false,
+        [line] => !line.is_empty(),
+        _ => true,
     }
-    1 < fragment_lines.len() || !fragment_lines[0].is_empty()
 }

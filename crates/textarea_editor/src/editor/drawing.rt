@@ -3,7 +3,7 @@ ghost use Rattle.std.specs.Prelude.{◌≡◌, ◌≤◌, ◌-◌, IfOk, OnOk, l
 ghost use Rattle.std.specs.Str.{chars};
 ghost use Rattle.textarea_editor.specs.Editor.{ShowsHelp, controls_of, draft_of, end_of, field_of, screen_columns_of, screen_rows_of};
 ghost use Rattle.textarea_editor.specs.Screen.{IsFrameCaret, IsPainted};
-ghost use Rattle.textarea_editor.specs.StatusRow.{IsAskedBefore, IsAskedInLast, IsAskedInRow, at_left, line_of_words, row_style};
+ghost use Rattle.textarea_editor.specs.StatusRow.{IsAskedBefore, IsAskedInLast, IsAskedInRow, at_left, is_from, line_of_words, row_style};
 ghost use Rattle.textarea_paint.specs.Row.{row_cell};
 ghost use Rattle.textarea_screen.specs.Buffer.{Changes, KeepsOutside};
 ghost use Rattle.textarea_screen.specs.Rect.{contains};
@@ -121,8 +121,7 @@ impl Editor {
         let begin = left_columns.min(end);
         let left_area = Rect::new(0, row.y, end, row.height);
         draw_part(buffer, left_area, left)?;
-        let right_area = Rect::new(end, row.y, row.width.saturating_sub(end), row.height);
-        draw_part(buffer, right_area, right)?;
+        draw_from(buffer, row, end, right)?;
         let field = Rect::new(begin, row.y, end.saturating_sub(begin), row.height);
         Ok(field)
     }
@@ -163,6 +162,14 @@ fn character_count(text: &str) -> usize
     ensures { result ≡ length (chars text.now) }
 {
     text.chars().count()
+}
+
+// Draws words into a row, from a column on.
+fn draw_from(buffer: &mut Buffer, row: Rect, column: u16, text: String) -> Result<(), AllocError>
+    ensures { OnOk result (KeepsOutside (is_from column) buffer.old buffer.new) }
+{
+    let area = Rect::new(column, row.y, row.width.saturating_sub(column), row.height);
+    draw_part(buffer, area, text)
 }
 
 // Draws words into the row of an area.

@@ -61,8 +61,9 @@ pub fn file_draft(alloc: Global, text: String, wraps: bool) -> Result<(Draft, Li
     ensures opened { IfOk result (λ made. IsOpened made.0.area wraps) }
     ensures saved { IfOk result (λ made. IsSaved made.0) }
 {
-    let line_end = line_end_of(text.as_str());
-    let lines = lines_of(alloc, text.as_str(), line_end)?;
+    let content = text.as_str();
+    let line_end = line_end_of(content);
+    let lines = lines_of(alloc, content, line_end)?;
     drop(text);
     let ends = LineEnds {
         between: line_end,

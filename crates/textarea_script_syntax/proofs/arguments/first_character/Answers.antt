@@ -3,20 +3,22 @@ use Rattle.std.specs.Prelude.{chars, encode_utf8, slice_get}
 use Rattle.textarea_script_syntax.proofs.Escapes.{first_escaped, first_nothing, first_plain}
 use Rattle.textarea_script_syntax.proofs.arguments.first_character.Goals as goal
 
-pub returns-in_err-c-clause-value : goal.returns-in_err-c-clause-value
-returns-in_err-c-clause-value c =
-    let none = first_nothing c.args.text.now (ap length (sym c.chars-rest.ensures.rest) ∙ c.in_err-c.ensures.steps.0.0) in
+pub returns-in_err-first-clause-value : goal.returns-in_err-first-clause-value
+returns-in_err-first-clause-value c =
+    let none = first_nothing c.args.text.now (ap length (sym c.chars-characters.ensures.rest) ∙ c.in_err-first.ensures.steps.0.0) in
     rw c.from_residual.ensures none
 
-pub returns-in-92-clause-value : goal.returns-in-92-clause-value
-returns-in-92-clause-value c =
-    let is : c.args.text.now ≡ encode_utf8 92 ++ c.as_str.result.now = cc (c.in_ok-c.ensures.steps.0, c.chars-rest.ensures.rest, c.as_str.ensures, c.in-92.is) in
-    let same = first_escaped c.args.text.now c.as_str.result.now is in
-    rw same c.escaped_character.ensures.value
+-- the text is the first character and the rest
+split : (c : goal.After-as_str-rest) → c.args.text.now ≡ encode_utf8 c.in_ok-first.first ++ c.as_str-rest.result.now
+split c = cc (c.in_ok-first.ensures.steps.0, c.chars-characters.ensures.rest, c.as_str-rest.ensures)
 
-pub returns-in_default-clause-value : goal.returns-in_default-clause-value
-returns-in_default-clause-value c =
-    let is : c.args.text.now ≡ encode_utf8 c.in_ok-c.c ++ c.as_str-in_default.result.now = cc (c.in_ok-c.ensures.steps.0, c.chars-rest.ensures.rest, c.as_str-in_default.ensures) in
-    let first : Some c.in_ok-c.c ≡ slice_get (chars c.args.text.now) 0 = c.in_ok-c.ensures.steps.2 ∙ ap (λ (t : List ℕ). slice_get (chars t) 0) c.chars-rest.ensures.rest in
-    let other : c.in_ok-c.c ≢ 92 = search rules in
-    first_plain c.args.text.now c.as_str-in_default.result.now c.in_ok-c.c is first other
+pub returns-then-first-clause-value : goal.returns-then-first-clause-value
+returns-then-first-clause-value c =
+    let is : c.args.text.now ≡ encode_utf8 92 ++ c.as_str-rest.result.now = cc (split (goal.at.returns-then-first-clause-value c).After-as_str-rest, c.if-first.true) in
+    rw (first_escaped c.args.text.now c.as_str-rest.result.now is) c.escaped_character.ensures.value
+
+pub returns-else-first-clause-value : goal.returns-else-first-clause-value
+returns-else-first-clause-value c =
+    let first : Some c.in_ok-first.first ≡ slice_get (chars c.args.text.now) 0 = c.in_ok-first.ensures.steps.2 ∙ ap (λ (t : List ℕ). slice_get (chars t) 0) c.chars-characters.ensures.rest in
+    let other : c.in_ok-first.first ≢ 92 = search rules in
+    first_plain c.args.text.now c.as_str-rest.result.now c.in_ok-first.first (split (goal.at.returns-else-first-clause-value c).After-as_str-rest) first other

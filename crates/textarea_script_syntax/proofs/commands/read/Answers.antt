@@ -9,18 +9,23 @@ use Rattle.textarea_script_syntax.specs.Meaning.{Meaning}
 use Rattle.textarea_script_syntax.specs.Script.{lines_of_script, filled_lines, meaning_of, meaning_of_line, meanings_of_lines, IsFilledLine, IsUnparsedLine, NamesLine}
 use Rattle.textarea_script_syntax.specs.declared.commands.Command.{Command}
 use Rattle.textarea_script_syntax.proofs.Lines.{all_meanings, meanings_of_lines-empty, meanings_of_lines-filled}
-use Rattle.textarea_script_syntax.proofs.Scripts.{names_line, turn_at, filled_lines-empty, filled_lines-filled}
+use Rattle.textarea_script_syntax.proofs.Scripts.{IsTurn, names_line, turn_at, filled_lines-empty, filled_lines-filled}
 use Rattle.textarea_script_syntax.proofs.commands.read.Goals as goal
+
+-- the line of a turn
+line_turn : (c : goal.After-is_empty) → IsTurn (lines_of_script c.args.script.now) (length c.loop-index.yielded) c.in-Some.index c.in-Some.line.now
+line_turn c =
+    let t = YieldsList-turn (YieldsList-from_enumerate {s = c.into_iter-index-iterator.result}
+    (YieldsList-at (cc) (YieldsList-from_slice_split {s = c.split.result} _ (λ byte. byte == 10) c.args.script.now c.split.ensures.rest c.split.ensures.done c.split.ensures.closure
+    (λ x r q k. search (rules, tests)))) (cc)) c.loop-index.yielded _ c.loop-index.yielded_by _ _ (c.in-Some.index, c.in-Some.line) c.in-Some.is c.next.ensures.steps in
+    turn_at (lines_of_script c.args.script.now) (length c.loop-index.yielded) c.in-Some.index c.in-Some.line.now t.0 t.1
 
 pub loop-index-preserved-then-is_empty : goal.loop-index-preserved-then-is_empty
 loop-index-preserved-then-is_empty c =
     let lines = lines_of_script c.args.script.now in
     let count = length c.loop-index.yielded in
     let line = c.in-Some.line.now in
-    let t = YieldsList-turn (YieldsList-from_enumerate {s = c.into_iter-index-iterator.result}
-    (YieldsList-at (cc) (YieldsList-from_slice_split {s = c.split.result} _ (λ byte. byte == 10) c.args.script.now c.split.ensures.rest c.split.ensures.done c.split.ensures.closure
-    (λ x r q k. search (rules, tests)))) (cc)) c.loop-index.yielded _ c.loop-index.yielded_by _ _ (c.in-Some.index, c.in-Some.line) c.in-Some.is c.next.ensures.steps in
-    let turn = turn_at lines count c.in-Some.index line t.0 t.1 in
+    let turn = line_turn (goal.at.loop-index-preserved-then-is_empty c).After-is_empty in
     let none : length line ≡ 0 = grind (arith, nat_tests) in
     let more = sym (length_push c.loop-index.yielded (c.in-Some.index, c.in-Some.line)) in
     record {
@@ -37,10 +42,7 @@ loop-index-preserved c =
     let lines = lines_of_script c.args.script.now in
     let count = length c.loop-index.yielded in
     let line = c.in-Some.line.now in
-    let t = YieldsList-turn (YieldsList-from_enumerate {s = c.into_iter-index-iterator.result}
-    (YieldsList-at (cc) (YieldsList-from_slice_split {s = c.split.result} _ (λ byte. byte == 10) c.args.script.now c.split.ensures.rest c.split.ensures.done c.split.ensures.closure
-    (λ x r q k. search (rules, tests)))) (cc)) c.loop-index.yielded _ c.loop-index.yielded_by _ _ (c.in-Some.index, c.in-Some.line) c.in-Some.is c.next.ensures.steps in
-    let turn = turn_at lines count c.in-Some.index line t.0 t.1 in
+    let turn = line_turn (goal.at.loop-index-preserved c).After-is_empty in
     let some : 0 < length line = grind (arith, nat_tests) in
     let more = sym (length_push c.loop-index.yielded (c.in-Some.index, c.in-Some.line)) in
     let viewed : List Command → List (Option Meaning) = λ commands. map (λ (command : Command). Some (meaning_of command.content)) commands in
@@ -62,10 +64,7 @@ returns-in_err-read_line-clause-err c =
     let lines = lines_of_script c.args.script.now in
     let count = length c.loop-index.yielded in
     let line = c.in-Some.line.now in
-    let t = YieldsList-turn (YieldsList-from_enumerate {s = c.into_iter-index-iterator.result}
-    (YieldsList-at (cc) (YieldsList-from_slice_split {s = c.split.result} _ (λ byte. byte == 10) c.args.script.now c.split.ensures.rest c.split.ensures.done c.split.ensures.closure
-    (λ x r q k. search (rules, tests)))) (cc)) c.loop-index.yielded _ c.loop-index.yielded_by _ _ (c.in-Some.index, c.in-Some.line) c.in-Some.is c.next.ensures.steps in
-    let turn = turn_at lines count c.in-Some.index line t.0 t.1 in
+    let turn = line_turn (goal.at.returns-in_err-read_line-clause-err c).After-is_empty in
     let some : 0 < length line = grind (arith, nat_tests) in
     let here : c.in-Some.index + 1 - 1 ≡ count = omega (arith, turn.index_is) in
     let found : get_or lines (c.in-Some.index + 1 - 1) [] ≡ line =

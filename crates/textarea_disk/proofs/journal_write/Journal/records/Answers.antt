@@ -15,5 +15,5 @@ returns c =
     ok_so c.with_header.result
     (λ made is.
     first_records c.args.self.now.is_begun text c.args.text.now payload made.items c.if-self.false (search rules) leads
-    (is ∙ ap (λ (b : List ℕ). framed (header_of b) ++ c.as_slice-4.result.now) c.as_slice-3.ensures.value ∙ ap (λ (b : List ℕ). framed (header_of text) ++ b) (c.as_slice-4.ensures.value ∙ last)))
+    (is ∙ ap (λ (b : List ℕ). framed (header_of b) ++ c.as_slice-record.result.now) c.as_slice-old.ensures.value ∙ ap (λ (b : List ℕ). framed (header_of text) ++ b) (c.as_slice-record.ensures.value ∙ last)))
     c.with_header.ensures

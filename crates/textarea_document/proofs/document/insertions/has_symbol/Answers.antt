@@ -1,20 +1,15 @@
-use Rattle.std.proofs.Common.{◌≡◌, ◌≢◌, ◌∙◌, ◌<◌, ◌≤◌, ◌==◌, nat_lt, length, true, false, arith}
-use Rattle.std.proofs.lemmas.Bool.Decides.{nat_tests}
+use Rattle.std.proofs.Common.{◌≡◌, ◌≢◌, length, arith}
 use Rattle.textarea_text.specs.Text.{text_of}
 use Rattle.textarea_text.proofs.EmptyTexts.{text_of-many}
 use Rattle.textarea_document.proofs.Inserts.{filled_one, filled_some}
 use Rattle.textarea_document.proofs.document.insertions.has_symbol.Goals as goal
 
-pub returns-then-fragment_lines-gt1 : goal.returns-then-fragment_lines-gt1
-returns-then-fragment_lines-gt1 c =
-    let many : 1 < length c.args.fragment_lines.now = c.if-fragment_lines-gt1.true in
-    let test : nat_lt 1 (length c.args.fragment_lines.now) ≡ true = grind (arith, nat_tests) in
-    let apart : length c.args.fragment_lines.now ≢ 1 = omega arith in
-    test ∙ filled_some (text_of c.args.fragment_lines.now) (text_of-many c.args.fragment_lines.now apart (omega arith))
+pub returns-in-len1 : goal.returns-in-len1
+returns-in-len1 c =
+    let one : length c.args.fragment_lines.now ≡ 1 = omega (arith, c.in-len1.len_at_least, c.in-len1.len_below) in
+    filled_one c.args.fragment_lines.now c.line-item.result c.is_empty.result one c.line-item.is c.is_empty.ensures
 
-pub returns-else-fragment_lines-gt1 : goal.returns-else-fragment_lines-gt1
-returns-else-fragment_lines-gt1 c =
-    let few : length c.args.fragment_lines.now ≤ 1 = c.if-fragment_lines-gt1.false in
-    let some : false ≡ (length c.args.fragment_lines.now == 0) = c.if-is_empty.ensures in
-    let one : length c.args.fragment_lines.now ≡ 1 = grind (arith, nat_tests) in
-    filled_one c.args.fragment_lines.now c.index-fragment_lines-0.result c.is_empty-else-fragment_lines-gt1.result one c.index-fragment_lines-0.is c.is_empty-else-fragment_lines-gt1.ensures
+pub returns-in_default : goal.returns-in_default
+returns-in_default c =
+    let apart : length c.args.fragment_lines.now ≢ 1 = omega arith in
+    filled_some (text_of c.args.fragment_lines.now) (text_of-many c.args.fragment_lines.now apart (omega arith))

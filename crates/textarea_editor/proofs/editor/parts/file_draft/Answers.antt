@@ -11,5 +11,5 @@ returns-clause-written c =
     record {
       strings = items;
       of_text = sym (ap (λ (area : State). lines area.document.text) c.in_ok-opened.ensures.area ∙ lines-joined (lines_of items) (subst (λ (n : ℕ). 0 < n) (sym (length-map items characters_of)) c.in_ok-lines.ensures.some));
-      joined = sym (append-nil _ ∙ c.in_ok-lines.ensures.joined ∙ c.as_str-2.ensures.value);
+      joined = sym (append-nil _ ∙ c.in_ok-lines.ensures.joined ∙ c.as_str-content.ensures.value);
     }
