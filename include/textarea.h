@@ -476,21 +476,33 @@ uint32_t ta_is_empty(ta_handle_t *handle);
  * Statuses: ok, out of memory, empty handle. */
 uint32_t ta_duplicate_line(ta_handle_t *handle);
 
-/** Inserts a tab at the start of the cursor's line, or of each line of the selection, as one group
- * of edits, and returns whether it inserted one. Empty lines are left, and at tab length 0 all
- * lines. Cursor and selection move with the text, but a selection that begins at column 0 still
- * does.
+/** Inserts a tab at the start of the cursor's line, or of each line of the selection. It is one
+ * group of edits, and the result is whether it inserted one. Empty lines are left, and at tab
+ * length 0 all lines. Cursor and selection move with the text, but a selection that begins at
+ * column 0 still does.
  *
  * Statuses: ok (true), false, out of memory, empty handle. */
 uint32_t ta_indent_lines(ta_handle_t *handle);
 
-/** Removes a tab character, or spaces, at most as many as the tab length, from the start of the
- * cursor's line, or of each line of the selection, as one group of edits, and returns whether
- * there were any. It removes no character of an atomic range. Cursor and selection move with the
- * text.
+/** Removes a tab character, or spaces, at most as many as the tab length, from the start of each of
+ * these lines. It is one group of edits, and the result is whether there were any. It removes no
+ * character of an atomic range. Cursor and selection move with the text.
  *
  * Statuses: ok (true), false, out of memory, empty handle. */
 uint32_t ta_outdent_lines(ta_handle_t *handle);
+
+/** Moves the cursor's line, or the lines of the selection, up by one row. The line above is then
+ * below them; the result is whether there was one. It is one group of edits. Cursor, selection and
+ * the atomic ranges of these lines move along; those of the line above are removed with it.
+ *
+ * Statuses: ok (true), false, out of memory, empty handle. */
+uint32_t ta_move_lines_up(ta_handle_t *handle);
+
+/** Moves these lines down by one row. The line below is then above them; the result is whether
+ * there was one. All else is as for `ta_move_lines_up`.
+ *
+ * Statuses: ok (true), false, out of memory, empty handle. */
+uint32_t ta_move_lines_down(ta_handle_t *handle);
 
 /** Inserts the character with this number at the cursor, or at the end of the atomic range that
  * strictly contains it, as typed; a line feed and a carriage return break the line.

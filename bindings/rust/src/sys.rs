@@ -281,6 +281,8 @@ unsafe extern "C" {
     pub fn ta_duplicate_line(handle: *mut Handle) -> u32;
     pub fn ta_indent_lines(handle: *mut Handle) -> u32;
     pub fn ta_outdent_lines(handle: *mut Handle) -> u32;
+    pub fn ta_move_lines_up(handle: *mut Handle) -> u32;
+    pub fn ta_move_lines_down(handle: *mut Handle) -> u32;
     pub fn ta_insert_char(handle: *mut Handle, character: u32) -> u32;
     pub fn ta_insert_newline(handle: *mut Handle) -> u32;
     pub fn ta_insert_str(handle: *mut Handle, text: *const u8, text_len: usize) -> u32;

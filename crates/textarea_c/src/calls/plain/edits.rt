@@ -21,10 +21,10 @@ pub extern "C" fn ta_duplicate_line(handle: &mut Handle, alloc: Global) -> u32
     on!(handle, alloc, editor => done(editor.area.duplicate_line()))
 }
 
-/// Inserts a tab at the start of the cursor's line, or of each line of the selection, as one group
-/// of edits, and returns whether it inserted one. Empty lines are left, and at tab length 0 all
-/// lines. Cursor and selection move with the text, but a selection that begins at column 0 still
-/// does.
+/// Inserts a tab at the start of the cursor's line, or of each line of the selection. It is one
+/// group of edits, and the result is whether it inserted one. Empty lines are left, and at tab
+/// length 0 all lines. Cursor and selection move with the text, but a selection that begins at
+/// column 0 still does.
 ///
 /// Statuses: ok (true), false, out of memory, empty handle.
 #[unsafe(no_mangle)]
@@ -35,10 +35,9 @@ pub extern "C" fn ta_indent_lines(handle: &mut Handle, alloc: Global) -> u32
     on!(handle, alloc, editor => flag(editor.area.indent_lines()))
 }
 
-/// Removes a tab character, or spaces, at most as many as the tab length, from the start of the
-/// cursor's line, or of each line of the selection, as one group of edits, and returns whether
-/// there were any. It removes no character of an atomic range. Cursor and selection move with the
-/// text.
+/// Removes a tab character, or spaces, at most as many as the tab length, from the start of each of
+/// these lines. It is one group of edits, and the result is whether there were any. It removes no
+/// character of an atomic range. Cursor and selection move with the text.
 ///
 /// Statuses: ok (true), false, out of memory, empty handle.
 #[unsafe(no_mangle)]
@@ -47,4 +46,29 @@ pub extern "C" fn ta_outdent_lines(handle: &mut Handle, alloc: Global) -> u32
         (λ a b. MakesAttempt call.OutdentLines result a b) }
 {
     on!(handle, alloc, editor => flag(editor.area.outdent_lines()))
+}
+
+/// Moves the cursor's line, or the lines of the selection, up by one row. The line above is then
+/// below them; the result is whether there was one. It is one group of edits. Cursor, selection and
+/// the atomic ranges of these lines move along; those of the line above are removed with it.
+///
+/// Statuses: ok (true), false, out of memory, empty handle.
+#[unsafe(no_mangle)]
+pub extern "C" fn ta_move_lines_up(handle: &mut Handle, alloc: Global) -> u32
+    ensures { Calls handle.old.stored.content result handle.new.stored.content
+        (λ a b. MakesAttempt call.MoveLinesUp result a b) }
+{
+    on!(handle, alloc, editor => flag(editor.area.move_lines_up()))
+}
+
+/// Moves these lines down by one row. The line below is then above them; the result is whether
+/// there was one. All else is as for `ta_move_lines_up`.
+///
+/// Statuses: ok (true), false, out of memory, empty handle.
+#[unsafe(no_mangle)]
+pub extern "C" fn ta_move_lines_down(handle: &mut Handle, alloc: Global) -> u32
+    ensures { Calls handle.old.stored.content result handle.new.stored.content
+        (λ a b. MakesAttempt call.MoveLinesDown result a b) }
+{
+    on!(handle, alloc, editor => flag(editor.area.move_lines_down()))
 }
