@@ -476,6 +476,19 @@ uint32_t ta_is_empty(ta_handle_t *handle);
  * Statuses: ok, out of memory, empty handle. */
 uint32_t ta_duplicate_line(ta_handle_t *handle);
 
+/** Moves the cursor's line, or the lines of the selection, up by one row. The line above is then
+ * below them; the result is whether there was one. It is one group of edits. Cursor, selection and
+ * the atomic ranges of these lines move along; those of the line above are removed with it.
+ *
+ * Statuses: ok (true), false, out of memory, empty handle. */
+uint32_t ta_move_lines_up(ta_handle_t *handle);
+
+/** Moves these lines down by one row. The line below is then above them; the result is whether
+ * there was one. All else is as for `ta_move_lines_up`.
+ *
+ * Statuses: ok (true), false, out of memory, empty handle. */
+uint32_t ta_move_lines_down(ta_handle_t *handle);
+
 /** Inserts the character with this number at the cursor, or at the end of the atomic range that
  * strictly contains it, as typed; a line feed and a carriage return break the line.
  *

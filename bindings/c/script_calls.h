@@ -6,6 +6,8 @@ static const struct script_call script_calls[] = {
     {.name = "duplicate_line", .bare = ta_duplicate_line},
     {.name = "indent_lines", .has_flag = true, .bare = ta_indent_lines},
     {.name = "outdent_lines", .has_flag = true, .bare = ta_outdent_lines},
+    {.name = "move_lines_up", .has_flag = true, .bare = ta_move_lines_up},
+    {.name = "move_lines_down", .has_flag = true, .bare = ta_move_lines_down},
     {.name = "delete_char", .has_flag = true, .bare = ta_delete_char},
     {.name = "delete_next_char", .has_flag = true, .bare = ta_delete_next_char},
     {.name = "delete_newline", .has_flag = true, .bare = ta_delete_newline},

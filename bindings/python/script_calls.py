@@ -8,6 +8,8 @@ METHODS = {
     "duplicate_line": (None, False),
     "indent_lines": (None, True),
     "outdent_lines": (None, True),
+    "move_lines_up": (None, True),
+    "move_lines_down": (None, True),
     "delete_char": (None, True),
     "delete_next_char": (None, True),
     "delete_newline": (None, True),

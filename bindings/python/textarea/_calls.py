@@ -33,18 +33,29 @@ class Calls(Core):
         self._edit(lib.ta_duplicate_line)
 
     def indent_lines(self) -> bool:
-        """Inserts a tab at the start of the cursor's line, or of each line of the selection, as one
-        group of edits, and returns whether it inserted one. Empty lines are left, and at tab length
-        0 all lines. Cursor and selection move with the text, but a selection that begins at column
-        0 still does."""
+        """Inserts a tab at the start of the cursor's line, or of each line of the selection. It is
+        one group of edits, and the result is whether it inserted one. Empty lines are left, and at
+        tab length 0 all lines. Cursor and selection move with the text, but a selection that begins
+        at column 0 still does."""
         return self._edit(lib.ta_indent_lines)
 
     def outdent_lines(self) -> bool:
         """Removes a tab character, or spaces, at most as many as the tab length, from the start of
-        the cursor's line, or of each line of the selection, as one group of edits, and returns
-        whether there were any. It removes no character of an atomic range. Cursor and selection
-        move with the text."""
+        each of these lines. It is one group of edits, and the result is whether there were any. It
+        removes no character of an atomic range. Cursor and selection move with the text."""
         return self._edit(lib.ta_outdent_lines)
+
+    def move_lines_up(self) -> bool:
+        """Moves the cursor's line, or the lines of the selection, up by one row. The line above is
+        then below them; the result is whether there was one. It is one group of edits. Cursor,
+        selection and the atomic ranges of these lines move along; those of the line above are
+        removed with it."""
+        return self._edit(lib.ta_move_lines_up)
+
+    def move_lines_down(self) -> bool:
+        """Moves these lines down by one row. The line below is then above them; the result is
+        whether there was one. All else is as for `move_lines_up`."""
+        return self._edit(lib.ta_move_lines_down)
 
     def delete_char(self) -> bool:
         """Removes the atomic range that ends at the cursor or strictly contains it, or else the

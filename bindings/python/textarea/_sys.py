@@ -222,6 +222,8 @@ def declare(library):
     declare_call(library, "ta_text", [POINTER(Handle), POINTER(c_uint8), c_size_t, POINTER(c_size_t)], c_uint32)
     declare_call(library, "ta_is_empty", [POINTER(Handle)], c_uint32)
     declare_call(library, "ta_duplicate_line", [POINTER(Handle)], c_uint32)
+    declare_call(library, "ta_move_lines_up", [POINTER(Handle)], c_uint32)
+    declare_call(library, "ta_move_lines_down", [POINTER(Handle)], c_uint32)
     declare_call(library, "ta_insert_char", [POINTER(Handle), c_uint32], c_uint32)
     declare_call(library, "ta_insert_newline", [POINTER(Handle)], c_uint32)
     declare_call(library, "ta_insert_str", [POINTER(Handle), POINTER(c_uint8), c_size_t], c_uint32)

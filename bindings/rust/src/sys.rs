@@ -279,6 +279,8 @@ unsafe extern "C" {
     pub fn ta_text(handle: *mut Handle, out: *mut u8, out_len: usize, needed: *mut usize) -> u32;
     pub fn ta_is_empty(handle: *mut Handle) -> u32;
     pub fn ta_duplicate_line(handle: *mut Handle) -> u32;
+    pub fn ta_move_lines_up(handle: *mut Handle) -> u32;
+    pub fn ta_move_lines_down(handle: *mut Handle) -> u32;
     pub fn ta_insert_char(handle: *mut Handle, character: u32) -> u32;
     pub fn ta_insert_newline(handle: *mut Handle) -> u32;
     pub fn ta_insert_str(handle: *mut Handle, text: *const u8, text_len: usize) -> u32;

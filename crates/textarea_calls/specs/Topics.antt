@@ -40,6 +40,8 @@ call_of_insert insert.Paste = call.Paste
 call_of_insert insert.DuplicateLine = call.DuplicateLine
 call_of_insert insert.IndentLines = call.IndentLines
 call_of_insert insert.OutdentLines = call.OutdentLines
+call_of_insert insert.MoveLinesUp = call.MoveLinesUp
+call_of_insert insert.MoveLinesDown = call.MoveLinesDown
 call_of_insert (insert.ReplaceRange from to text) = call.ReplaceRange from to text
 call_of_insert (insert.SetLines lines cursor) = call.SetLines lines cursor
 

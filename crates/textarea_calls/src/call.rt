@@ -31,6 +31,10 @@ pub enum Call<'a> {
     IndentLines,
     /// `TextArea::outdent_lines`
     OutdentLines,
+    /// `TextArea::move_lines_up`
+    MoveLinesUp,
+    /// `TextArea::move_lines_down`
+    MoveLinesDown,
     /// `TextArea::replace_range`
     ReplaceRange {
         /// The one end of the text that is replaced (row, column).

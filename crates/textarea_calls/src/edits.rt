@@ -24,6 +24,8 @@ impl Call<'_> {
             | Call::DuplicateLine
             | Call::IndentLines
             | Call::OutdentLines
+            | Call::MoveLinesUp
+            | Call::MoveLinesDown
             | Call::ReplaceRange { .. }
             | Call::SetLines { .. }
             | Call::DeleteChar

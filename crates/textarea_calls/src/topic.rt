@@ -42,6 +42,8 @@ pub enum InsertCall<'a> {
     DuplicateLine,
     IndentLines,
     OutdentLines,
+    MoveLinesUp,
+    MoveLinesDown,
     ReplaceRange {
         from: (usize, usize),
         to: (usize, usize),
@@ -231,6 +233,8 @@ pub fn topic_of(call: Call<'_>) -> Topic<'_>
         Call::DuplicateLine => Topic::Insert(InsertCall::DuplicateLine),
         Call::IndentLines => Topic::Insert(InsertCall::IndentLines),
         Call::OutdentLines => Topic::Insert(InsertCall::OutdentLines),
+        Call::MoveLinesUp => Topic::Insert(InsertCall::MoveLinesUp),
+        Call::MoveLinesDown => Topic::Insert(InsertCall::MoveLinesDown),
         Call::ReplaceRange { from, to, text } => Topic::Insert(InsertCall::ReplaceRange {
             from,
             to,

@@ -35,7 +35,7 @@ filled_one items s false one read e =
 -- ---- lines that are duplicated
 
 -- the lines from the first row to the last, and those after them
-again : (rows : List (List ℕ)) (first last : ℕ) → first ≤ last → last < length rows → drop first (take (last + 1) rows) ++ drop (last + 1) rows ≡ drop first rows
+pub again : (rows : List (List ℕ)) (first last : ℕ) → first ≤ last → last < length rows → drop first (take (last + 1) rows) ++ drop (last + 1) rows ≡ drop first rows
 again rows first last ordered within =
     sym (drop-append-le first (take (last + 1) rows) (drop (last + 1) rows) (omega (arith, ordered, length-take-le (last + 1) rows (omega (arith, within)))))
     ∙ ap (drop first) (take-append-drop (last + 1) rows)

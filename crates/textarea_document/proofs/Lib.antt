@@ -7,6 +7,7 @@ pub mod Replacing
 pub mod Indenting
 pub mod ReplacedTexts
 pub mod IndentedTexts
+pub mod MovedLines
 pub mod Betweens
 pub mod Ranges
 pub mod Sounds

@@ -94,14 +94,14 @@ stays_out ranges place bias out = ap (λ (found : Option AtomicRange). range_edg
 
 -- ---- a removal, of some symbols or of none
 
-abbrev place_at : List Symbol → Place
+abbrev pub place_at : List Symbol → Place
 place_at front = end (0, 0) front
 
-record Removed (document : DocumentState) (front gone back : List Symbol) (new : DocumentState) : Type 0 where
-  sound : IsSound new
-  text : new.text ≡ front ++ back
-  cursor : new.cursor ≡ place_at front
-  outside : (xs : List Symbol) → IsOutside document.ranges (end (place_at front) (gone ++ xs)) → IsOutside new.ranges (end (place_at front) xs)
+pub record Removed (document : DocumentState) (front gone back : List Symbol) (new : DocumentState) : Type 0 where
+  pub sound : IsSound new
+  pub text : new.text ≡ front ++ back
+  pub cursor : new.cursor ≡ place_at front
+  pub outside : (xs : List Symbol) → IsOutside document.ranges (end (place_at front) (gone ++ xs)) → IsOutside new.ranges (end (place_at front) xs)
 
 never_before : (place : Place) → is_before place place ≡ false
 never_before place = grind (arith, nat_tests)
@@ -166,7 +166,7 @@ removed_none document front back h is = record {
   outside = λ xs out. out;
 }
 
-removed : (document : DocumentState) (front gone back : List Symbol) (now : ℕ) → IsSound document → document.text ≡ front ++ (gone ++ back) → IsOutside document.ranges (place_at front) →
+pub removed : (document : DocumentState) (front gone back : List Symbol) (now : ℕ) → IsSound document → document.text ≡ front ++ (gone ++ back) → IsOutside document.ranges (place_at front) →
     IsOutside document.ranges (end (place_at front) gone) → Removed document front gone back (stretch_removed document (place_at front) (end (place_at front) gone) now)
 unfolding stretch_removed
 removed document front [] back now h is out_start out_stop =
@@ -224,13 +224,13 @@ inserted_at_cursor document front (symbol ∷ more) back now h is at out =
 
 -- ---- both
 
-record Replaced (document : DocumentState) (front gone symbols back : List Symbol) (new : DocumentState) : Type 0 where
-  sound : IsSound new
-  text : new.text ≡ (front ++ symbols) ++ back
-  cursor : new.cursor ≡ place_at (front ++ symbols)
-  outside : (xs : List Symbol) → IsOutside document.ranges (end (place_at front) (gone ++ xs)) → IsOutside new.ranges (end (place_at (front ++ symbols)) xs)
+pub record Replaced (document : DocumentState) (front gone symbols back : List Symbol) (new : DocumentState) : Type 0 where
+  pub sound : IsSound new
+  pub text : new.text ≡ (front ++ symbols) ++ back
+  pub cursor : new.cursor ≡ place_at (front ++ symbols)
+  pub outside : (xs : List Symbol) → IsOutside document.ranges (end (place_at front) (gone ++ xs)) → IsOutside new.ranges (end (place_at (front ++ symbols)) xs)
 
-replaced : (document : DocumentState) (front gone symbols back : List Symbol) (now : ℕ) → IsSound document → document.text ≡ front ++ (gone ++ back) → IsOutside document.ranges (place_at front) →
+pub replaced : (document : DocumentState) (front gone symbols back : List Symbol) (now : ℕ) → IsSound document → document.text ≡ front ++ (gone ++ back) → IsOutside document.ranges (place_at front) →
     IsOutside document.ranges (end (place_at front) gone) → Replaced document front gone symbols back (stretch_replaced document (place_at front) (end (place_at front) gone) symbols now)
 unfolding stretch_replaced
 replaced document front gone symbols back now h is out_start out_stop =
@@ -314,7 +314,7 @@ each_text document front left passed (stretch ∷ rest) symbols now h is at are 
     ∙ append_assoc front kept (symbols ++ with_replaced back stretch.1 rest symbols)
     ∙ ap (λ t. front ++ (kept ++ (symbols ++ with_replaced t stretch.1 rest symbols))) (sym further)
 
-ended_text : (before document : DocumentState) → (ended_after before document).text ≡ document.text
+pub ended_text : (before document : DocumentState) → (ended_after before document).text ≡ document.text
 ended_text before document = by (is_open before.log.group)
   where
     by : (b : Bool) → (cond b document (record document { log = group_ended document.log })).text ≡ document.text

@@ -15,5 +15,6 @@ pub mod Splices
 pub mod Replacing
 pub mod ReplacedText
 pub mod Indenting
+pub mod Moving
 pub mod Target
 pub mod Prelude

@@ -6,6 +6,7 @@ mod groups;
 mod indenting;
 pub mod insertions;
 mod laws;
+mod moving;
 mod next_symbol;
 mod ranges;
 mod removals;

@@ -38,6 +38,8 @@ pub(crate) fn insert_call(
         InsertCall::DuplicateLine => area.duplicate_line().map(|()| Answer::Done),
         InsertCall::IndentLines => area.indent_lines().map(Answer::Flag),
         InsertCall::OutdentLines => area.outdent_lines().map(Answer::Flag),
+        InsertCall::MoveLinesUp => area.move_lines_up().map(Answer::Flag),
+        InsertCall::MoveLinesDown => area.move_lines_down().map(Answer::Flag),
         InsertCall::ReplaceRange { from, to, text } => area
             .replace_range(from, to, text)
             .map(Answer::Flag),

@@ -36,6 +36,8 @@ bare_commands =
     ∷ (codes "duplicate_line", without_arguments call.DuplicateLine)
     ∷ (codes "indent_lines", without_arguments call.IndentLines)
     ∷ (codes "outdent_lines", without_arguments call.OutdentLines)
+    ∷ (codes "move_lines_up", without_arguments call.MoveLinesUp)
+    ∷ (codes "move_lines_down", without_arguments call.MoveLinesDown)
     ∷ (codes "delete_char", without_arguments call.DeleteChar)
     ∷ (codes "delete_next_char", without_arguments call.DeleteNextChar)
     ∷ (codes "delete_newline", without_arguments call.DeleteNewline)

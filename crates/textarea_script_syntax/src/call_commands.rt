@@ -27,6 +27,8 @@ pub fn call_without_arguments(name: &str) -> Option<Call<'static>>
         "duplicate_line" => Some(Call::DuplicateLine),
         "indent_lines" => Some(Call::IndentLines),
         "outdent_lines" => Some(Call::OutdentLines),
+        "move_lines_up" => Some(Call::MoveLinesUp),
+        "move_lines_down" => Some(Call::MoveLinesDown),
         "delete_char" => Some(Call::DeleteChar),
         "delete_next_char" => Some(Call::DeleteNextChar),
         "delete_newline" => Some(Call::DeleteNewline),

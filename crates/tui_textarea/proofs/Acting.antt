@@ -43,7 +43,7 @@ use Rattle.tui_textarea.specs.Search.{after_search, next_match, previous_match}
 use Rattle.tui_textarea.specs.Selection.{IsInsertOutOfMemory, unselected}
 use Rattle.tui_textarea.specs.State.{State}
 use Rattle.tui_textarea.proofs.FoundPlaces.{match_is_place}
-use Rattle.tui_textarea.proofs.Replacing.{all_by, lines_shifted_by, match_by, range_by, search_unchanged}
+use Rattle.tui_textarea.proofs.Replacing.{all_by, lines_down_by, lines_shifted_by, lines_up_by, match_by, range_by, search_unchanged}
 use Rattle.tui_textarea.proofs.SoundStates.{sound_at, sound_cursor, sound_from, sound_goes, sound_ranges, sound_search, sound_settings, sound_unanchored}
 use Rattle.textarea_document.proofs.UndoGroups.{sound_redo, sound_undo}
 use Rattle.tui_textarea.proofs.Stepping.{Reckoning, after_by, ahead_by, before_by, break_by, char_by, cleared_by, copied_by, cursor_range_by, cut_by, edited, kept, moved}
@@ -141,6 +141,8 @@ module _ (By Own : Fact) (by : Reckoning By) (past : Past Own) where
   by_state old call.IndentLines h =
       given _ (lines_shifted_by By by old.document false (line_stretches old.document false) (tab_of old.document old.settings.hard_tab_indent) old.time h)
   by_state old call.OutdentLines h = given _ (lines_shifted_by By by old.document true (line_stretches old.document true) [] old.time h)
+  by_state old call.MoveLinesUp h = given _ (lines_up_by By by old.document old.time h)
+  by_state old call.MoveLinesDown h = given _ (lines_down_by By by old.document old.time h)
   by_state old (call.ReplaceRange from to text) h = given _ (range_by By by old.document from to (fragment_symbols (chars text.now)) old.time h)
   by_state old (call.ReplaceMatch text) h = given _ (match_by By by old (match_at_cursor old) (fragment_symbols (chars text.now)) h)
   by_state old (call.ReplaceAll text) h = given _ (all_by By by old.document (replaceable old) (fragment_symbols (chars text.now)) old.time h)

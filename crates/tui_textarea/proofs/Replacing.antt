@@ -1,19 +1,23 @@
 -- Replacements lead by their splices to sound documents.
-use Rattle.std.proofs.Common.{◌≡◌, ◌<◌, ℕ, ◌-◌, Bool, true, false, List, [], ◌∷◌, ◌++◌, length, Option, None, Some, IfSome, option_map, ap, arith, refl, sym, not}
+use Rattle.std.proofs.Common.{◌≡◌, ◌<◌, ℕ, ◌+◌, ◌-◌, ◌==◌, Bool, true, false, List, [], ◌∷◌, ◌++◌, length, Option, None, Some, IfSome, option_map, ap, arith, refl, sym, not}
 use Rattle.textarea_text.specs.Between.{clip}
-use Rattle.textarea_text.specs.Place.{IsPlace, Place, is_before}
+use Rattle.textarea_text.specs.Place.{IsPlace, Place, is_before, line_end, line_of}
 use Rattle.textarea_text.specs.Splice.{Splice}
-use Rattle.textarea_text.specs.Text.{Symbol, characters, lines}
+use Rattle.textarea_text.specs.Text.{Symbol, characters, following, leading, lines}
 use Rattle.textarea_history.specs.Groups.{is_open}
 use Rattle.textarea_history.specs.Log.{group_ended}
 use Rattle.textarea_search.specs.declared.search.direction.Direction.TheVariants as toward
 use Rattle.textarea_search.specs.declared.search.text_matches.TextMatch.{TextMatch}
 use Rattle.textarea_document.specs.DocumentState.{DocumentState}
 use Rattle.textarea_document.specs.Indenting.{moved_near, shifted_over, shifted_place}
+use Rattle.textarea_document.specs.Moving.{has_line_below, line_above_relocated, line_below_relocated, lines_moved_down, lines_moved_up, move_down_splices}
+use Rattle.textarea_document.specs.Moving.{move_up_splices, relocated, relocation_splices, row_down, row_up, swapped_down, swapped_up}
 use Rattle.textarea_document.specs.Outcomes.{after_move}
 use Rattle.textarea_document.specs.Replacing.{ahead_end, ahead_replaced, ahead_start, all_replaced, all_splices, begun, begun_at_start, each_replaced, each_splices, ended_after, range_replaced, range_splices}
 use Rattle.textarea_document.specs.Replacing.{stretch_end, stretch_removal, stretch_removed, stretch_replaced, stretch_splices, stretch_start}
+use Rattle.textarea_document.specs.Selection.{first_selected_row, last_selected_row}
 use Rattle.textarea_document.specs.Sound.{IsSound}
+use Rattle.textarea_document.proofs.MovedLines.{ends_above, ends_below}
 use Rattle.textarea_document.proofs.Orders.{index_before}
 use Rattle.textarea_document.proofs.Replacing.{ends_are_places}
 use Rattle.textarea_document.proofs.Sounds.{sound_begun, sound_ended, start_is_place}
@@ -146,6 +150,54 @@ module _ (By : DocumentState → List Splice → DocumentState → Type 0) (by :
       let after = all_replaced document (stretch ∷ rest) (characters tab) now in
       near_by document after (all_splices document (stretch ∷ rest) (characters tab) now) (place document.cursor) (option_map place document.anchor)
       (all_by document (stretch ∷ rest) (characters tab) now h)
+
+  -- ---- lines that change places with the line above or below them
+
+  relocated_by : (document : DocumentState) (start stop place : Place) (symbols : List Symbol) (now : ℕ) → IsSound document → IsPlace document.text start → IsPlace document.text stop
+      → Keeps document (relocation_splices document start stop place symbols now) (relocated document start stop place symbols now)
+  unfolding relocated
+  relocated_by document start stop place symbols now h at to =
+      let between = stretch_removed (begun document) start stop now in
+      let rows = lines between.text in
+      let there = clip rows place in
+      let new = stretch_replaced between there there symbols now in
+      let splices = relocation_splices document start stop place symbols now in
+      ended_by document new splices
+      (then_by document (begun document) new [] splices (begun_by document h)
+      (λ sound. then_by (begun document) between new (stretch_removal (begun document) start stop) (stretch_splices between there there symbols now)
+      (removed_by (begun document) start stop now sound at to)
+      (λ left. let near = clip_is_place rows place (omega (arith, left.cursor.0)) in replaced_by between there there symbols now left near near)))
+
+  pub lines_up_by : (document : DocumentState) (now : ℕ) → IsSound document → Keeps document (move_up_splices document now) (lines_moved_up document now)
+  unfolding swapped_up
+  lines_up_by document now h =
+      let rows = lines document.text in
+      let first = first_selected_row document in
+      let last = last_selected_row document in
+      let place : Place = (last - 1, length (line_of rows last)) in
+      let symbols = following (line_of rows (first - 1) ∷ []) in
+      let splices = relocation_splices document (first - 1, 0) (first, 0) place symbols now in
+      let ends = ends_above document h in
+      by_both (Keeps document) (first == 0) [] splices document (swapped_up document now)
+      (λ none. kept By by document document refl h)
+      (λ some. near_by document (line_above_relocated document now) splices (row_up document.cursor) (option_map row_up document.anchor)
+      (relocated_by document (first - 1, 0) (first, 0) place symbols now h ends.0 ends.1))
+
+  pub lines_down_by : (document : DocumentState) (now : ℕ) → IsSound document → Keeps document (move_down_splices document now) (lines_moved_down document now)
+  unfolding swapped_down
+  lines_down_by document now h =
+      let rows = lines document.text in
+      let last = last_selected_row document in
+      let start = line_end rows last in
+      let stop = line_end rows (last + 1) in
+      let place : Place = (first_selected_row document, 0) in
+      let symbols = leading (line_of rows (last + 1) ∷ []) in
+      let splices = relocation_splices document start stop place symbols now in
+      by_both (Keeps document) (has_line_below document) splices [] (swapped_down document now) document
+      (λ some. let ends = ends_below document h some in
+      near_by document (line_below_relocated document now) splices (row_down rows document.cursor) (option_map (row_down rows) document.anchor)
+      (relocated_by document start stop place symbols now h ends.0 ends.1))
+      (λ none. kept By by document document refl h)
 
   -- ---- a match and then a search
 

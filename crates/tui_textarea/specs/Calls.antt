@@ -15,6 +15,7 @@ use Rattle.textarea_text.specs.Fragment.{fragment_symbols, fragment_text, pasted
 use Rattle.textarea_document.specs.DocumentState.{lines_replaced}
 use Rattle.textarea_document.specs.Edits.{range_at_cursor, has_symbols}
 use Rattle.textarea_document.specs.Indenting.{indent_splices, lines_indented, lines_outdented, outdent_splices, shifts_lines}
+use Rattle.textarea_document.specs.Moving.{has_line_above, has_line_below, lines_moved_down, lines_moved_up, move_down_splices, move_up_splices}
 use Rattle.textarea_document.specs.Outcomes.{after_redo, run_ended, after_undo}
 use Rattle.textarea_document.specs.Replacing.{range_splices, replaces, stretch_symbols}
 use Rattle.textarea_document.specs.Selection.{is_selected, lines_duplicated, selection_duplication}
@@ -68,6 +69,8 @@ result_of_call state (call.InsertStr text) = Flag (inserts_text state (fragment_
 result_of_call state (call.InsertPasted text) = Flag (inserts_text state (pasted_symbols (chars text.now)))
 result_of_call state call.IndentLines = Flag (shifts_lines state.document false)
 result_of_call state call.OutdentLines = Flag (shifts_lines state.document true)
+result_of_call state call.MoveLinesUp = Flag (has_line_above state.document)
+result_of_call state call.MoveLinesDown = Flag (has_line_below state.document)
 result_of_call state (call.ReplaceRange from to text) = Flag (replaces state.document.text from to (fragment_symbols (chars text.now)))
 result_of_call state (call.ReplaceMatch text) = Flag (is_some (match_at_cursor state))
 result_of_call state (call.ReplaceAll text) = reported.Number (length (replaceable state))
@@ -142,6 +145,8 @@ state_after state call.InsertNewline = newline_inserted state
 state_after state call.DuplicateLine = with_document state (lines_duplicated state.document state.time)
 state_after state call.IndentLines = with_document state (lines_indented state.document state.settings.hard_tab_indent state.time)
 state_after state call.OutdentLines = with_document state (lines_outdented state.document state.time)
+state_after state call.MoveLinesUp = with_document state (lines_moved_up state.document state.time)
+state_after state call.MoveLinesDown = with_document state (lines_moved_down state.document state.time)
 state_after state (call.ReplaceRange from to text) = with_range_replaced state from to (fragment_symbols (chars text.now))
 state_after state (call.ReplaceMatch text) = match_replaced state (fragment_symbols (chars text.now))
 state_after state (call.ReplaceAll text) = matches_replaced state (fragment_symbols (chars text.now))
@@ -216,7 +221,8 @@ state_after state call = state
 
 -- The splices of the call in this state, one after another. An insertion over selected text has
 -- two, first the removal of that text; a replacement has at most two, and one of several matches at
--- most two for each of them; indenting and outdenting have one for each line; any other edit, undo or redo has one, or those of a group; a call that
+-- most two for each of them; indenting and outdenting have one for each line, and lines that move
+-- have two; any other edit, undo or redo has one, or those of a group; a call that
 -- changes nothing in the text has none. The call that sets lines replaces the text, and has none. Those of
 -- inputs are defined elsewhere.
 abbrev pub call_splices : State → Call → List Splice
@@ -229,6 +235,8 @@ call_splices state call.Paste = str_splices state state.yank
 call_splices state call.DuplicateLine = selection_duplication state.document ∷ []
 call_splices state call.IndentLines = indent_splices state.document state.settings.hard_tab_indent state.time
 call_splices state call.OutdentLines = outdent_splices state.document state.time
+call_splices state call.MoveLinesUp = move_up_splices state.document state.time
+call_splices state call.MoveLinesDown = move_down_splices state.document state.time
 call_splices state (call.ReplaceRange from to text) = range_splices state.document from to (fragment_symbols (chars text.now)) state.time
 call_splices state (call.ReplaceMatch text) = match_splices state (fragment_symbols (chars text.now))
 call_splices state (call.ReplaceAll text) = matches_splices state (fragment_symbols (chars text.now))
@@ -260,6 +268,8 @@ NeedsMemory state call.InsertNewline = Unit {0}
 NeedsMemory state call.DuplicateLine = Unit {0}
 NeedsMemory state call.IndentLines = Unit {0}
 NeedsMemory state call.OutdentLines = Unit {0}
+NeedsMemory state call.MoveLinesUp = has_line_above state.document ≢ false
+NeedsMemory state call.MoveLinesDown = has_line_below state.document ≢ false
 NeedsMemory state (call.ReplaceRange from to text) = Unit {0}
 NeedsMemory state (call.ReplaceMatch text) = state.pattern ≢ None
 NeedsMemory state (call.ReplaceAll text) = state.pattern ≢ None

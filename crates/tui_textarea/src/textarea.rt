@@ -11,6 +11,7 @@ mod layout;
 mod look;
 mod measure;
 mod moves;
+mod moving;
 mod past;
 mod ranges;
 mod removals;

@@ -20,6 +20,8 @@ pub fn call(area: &mut TextArea, name: &str, words: &str) -> Option<&'static str
         "duplicate_line" => done(area.duplicate_line()),
         "indent_lines" => flag(area.indent_lines()),
         "outdent_lines" => flag(area.outdent_lines()),
+        "move_lines_up" => flag(area.move_lines_up()),
+        "move_lines_down" => flag(area.move_lines_down()),
         "delete_char" => flag(area.delete_char()),
         "delete_next_char" => flag(area.delete_next_char()),
         "delete_newline" => flag(area.delete_newline()),

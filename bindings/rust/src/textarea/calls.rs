@@ -82,10 +82,10 @@ impl TextArea<'_> {
         Ok(())
     }
 
-    /// Inserts a tab at the start of the cursor's line, or of each line of the selection, as one
-    /// group of edits, and returns whether it inserted one. Empty lines are left, and at tab length
-    /// 0 all lines. Cursor and selection move with the text, but a selection that begins at column
-    /// 0 still does.
+    /// Inserts a tab at the start of the cursor's line, or of each line of the selection. It is one
+    /// group of edits, and the result is whether it inserted one. Empty lines are left, and at tab
+    /// length 0 all lines. Cursor and selection move with the text, but a selection that begins at
+    /// column 0 still does.
     pub fn indent_lines(&mut self) -> bool {
         must(self.try_indent_lines())
     }
@@ -95,10 +95,9 @@ impl TextArea<'_> {
         self.edit(|h| unsafe { sys::ta_indent_lines(h) })
     }
 
-    /// Removes a tab character, or spaces, at most as many as the tab length, from the start of the
-    /// cursor's line, or of each line of the selection, as one group of edits, and returns whether
-    /// there were any. It removes no character of an atomic range. Cursor and selection move with
-    /// the text.
+    /// Removes a tab character, or spaces, at most as many as the tab length, from the start of
+    /// each of these lines. It is one group of edits, and the result is whether there were any. It
+    /// removes no character of an atomic range. Cursor and selection move with the text.
     pub fn outdent_lines(&mut self) -> bool {
         must(self.try_outdent_lines())
     }
@@ -106,6 +105,30 @@ impl TextArea<'_> {
     /// As `outdent_lines`, but returns that memory ran out.
     pub fn try_outdent_lines(&mut self) -> Result<bool, OutOfMemory> {
         self.edit(|h| unsafe { sys::ta_outdent_lines(h) })
+    }
+
+    /// Moves the cursor's line, or the lines of the selection, up by one row. The line above is
+    /// then below them; the result is whether there was one. It is one group of edits. Cursor,
+    /// selection and the atomic ranges of these lines move along; those of the line above are
+    /// removed with it.
+    pub fn move_lines_up(&mut self) -> bool {
+        must(self.try_move_lines_up())
+    }
+
+    /// As `move_lines_up`, but returns that memory ran out.
+    pub fn try_move_lines_up(&mut self) -> Result<bool, OutOfMemory> {
+        self.edit(|h| unsafe { sys::ta_move_lines_up(h) })
+    }
+
+    /// Moves these lines down by one row. The line below is then above them; the result is whether
+    /// there was one. All else is as for `move_lines_up`.
+    pub fn move_lines_down(&mut self) -> bool {
+        must(self.try_move_lines_down())
+    }
+
+    /// As `move_lines_down`, but returns that memory ran out.
+    pub fn try_move_lines_down(&mut self) -> Result<bool, OutOfMemory> {
+        self.edit(|h| unsafe { sys::ta_move_lines_down(h) })
     }
 
     /// Removes the atomic range that ends at the cursor or strictly contains it, or else the

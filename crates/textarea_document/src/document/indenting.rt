@@ -130,7 +130,7 @@ impl Document {
     }
 
     // Moves the cursor and the anchor to the nearest positions.
-    fn move_near(&mut self, cursor: (usize, usize), anchor: Option<(usize, usize)>)
+    pub(super) fn move_near(&mut self, cursor: (usize, usize), anchor: Option<(usize, usize)>)
         ensures { self.new ≡ moved_near self.old cursor anchor }
     {
         let place = clip(self.lines(), cursor);

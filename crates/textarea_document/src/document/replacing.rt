@@ -157,7 +157,7 @@ impl Document {
 
     // Removes the text between the positions, if there is any, and inserts the fragment there.
     #[tactic(auto, unfolding(crate::specs::Replacing::stretch_replaced))]
-    fn replace_stretch(
+    pub(super) fn replace_stretch(
         &mut self,
         start: (usize, usize),
         end: (usize, usize),
@@ -176,7 +176,7 @@ impl Document {
 
     // Removes the text between the positions; if there is none, moves the cursor there.
     #[tactic(auto, using(crate::proofs::Orders::index_before), unfolding(crate::specs::Replacing::stretch_removed))]
-    fn remove_stretch(
+    pub(super) fn remove_stretch(
         &mut self,
         start: (usize, usize),
         end: (usize, usize),
@@ -194,7 +194,7 @@ impl Document {
     }
 
     // Ends the group that began in a copy of this document, unless one is open here.
-    fn end_group_of(&self, copy: Document) -> Document
+    pub(super) fn end_group_of(&self, copy: Document) -> Document
         ensures { result ≡ ended_after self.now copy }
     {
         let mut ended = copy;
