@@ -34,7 +34,7 @@ type Case = (Drawing, &'static str);
 
 const UNTOUCHED: &str = " | | | |\n | | | |\n | | | |\n";
 
-static CASES: [Case; 48] = [
+static CASES: [Case; 49] = [
     (Row(("a犬b", ""), Left, 0, 2), " |a| | | | |\n"),
     (Row(("a犬b", ""), Left, 0, 5), " |a|犬||b| |\n"),
     (Row(("a犬b", ""), Left, 1, 4), " |犬||b| | |\n"),
@@ -72,6 +72,8 @@ static CASES: [Case; 48] = [
         " |é|д\u{301}|犬\u{301}|| |\n",
     ),
     (Row(("éд", "\u{301}я"), Left, 0, 5), " |é|д|я| | |\n"),
+    // A jamo joins the syllable before it.
+    (Row(("한가\u{11A8}", ""), Left, 0, 5), " |한||가\u{11A8}|| |\n"),
     (Row(("a", "\u{301}b"), Left, 0, 5), " |a|b| | | |\n"),
     (Row(("ab", "c"), Center, 9, 5), " | |a|b|c| |\n"),
     (Row(("ab", "c"), Center, 0, 4), " | |a|b|c| |\n"),
@@ -193,7 +195,7 @@ fn rows_and_blocks(rt: HostRuntime) -> Result<(), Fail> {
 
 /// The first and the last character of each range whose columns are found without a table, and those
 /// beside them.
-static EDGES: [char; 94] = [
+static EDGES: [char; 98] = [
     '\u{9F}',
     '\u{A0}',
     '\u{AC}',
@@ -268,6 +270,10 @@ static EDGES: [char; 94] = [
     '\u{4E00}',
     '\u{A48C}',
     '\u{A48D}',
+    '\u{ABFF}',
+    '\u{AC00}',
+    '\u{D7A3}',
+    '\u{D7A4}',
     '\u{FF00}',
     '\u{FF01}',
     '\u{FF60}',

@@ -7,7 +7,7 @@ ghost use Rattle.unicode_segmentation.specs.Iter.{graphemes_left};
 
 use super::columns::cluster_columns;
 use super::letters::split_letters;
-use super::simple::split_simple;
+use super::simple::{split_flag, split_simple};
 use std::slice;
 use textarea_screen::screen::{Line, Span, Style};
 use unicode_segmentation::{Graphemes, UnicodeSegmentation};
@@ -183,6 +183,15 @@ fn split_run<'a>(text: &'a str, most: usize, style: Style) -> Option<(ClusterRun
             kind: RunKind::Plain,
         };
         return Some((run, after));
+    }
+    if let Some(flag) = split_flag(text) {
+        let run = ClusterRun {
+            text: flag.text,
+            style,
+            columns: flag.columns,
+            kind: RunKind::One,
+        };
+        return Some((run, flag.after));
     }
     if let Some(letters) = split_letters(text, most) {
         let run = ClusterRun {

@@ -13,8 +13,8 @@ pub(super) struct Front<'a> {
     pub(super) after: &'a str,
 }
 
-/// Splits the first cluster off a text, if it is a simple character or a flag and a simple
-/// character, a flag or the end of the text follows.
+/// Splits the first cluster off a text, if it is a simple character and a simple character, a flag
+/// or the end of the text follows.
 pub(super) fn split_simple<'a>(text: &'a str) -> Option<Front<'a>>
     ensures clusters { IfSome result (λ first.
         graphemes true text.now ≡ first.text.now ∷ graphemes true first.after.now) }
@@ -23,19 +23,32 @@ pub(super) fn split_simple<'a>(text: &'a str) -> Option<Front<'a>>
     let mut characters = text.chars();
     let first = characters.next()?;
     let after = characters.as_str();
-    if is_simple(first) {
-        if begins_apart(after) {
-            return split_before(text, after, columns_of_char(first));
-        }
-    } else if is_flag_half(first) {
-        return split_flag(text, first, after);
+    if is_simple(first) && begins_apart(after) {
+        split_before(text, after, columns_of_char(first))
+    } else {
+        None
     }
-    None
+}
+
+/// Splits the first cluster off a text, if it is a flag and a simple character, a flag or the end of
+/// the text follows.
+pub(super) fn split_flag<'a>(text: &'a str) -> Option<Front<'a>>
+    ensures clusters { IfSome result (λ first.
+        graphemes true text.now ≡ first.text.now ∷ graphemes true first.after.now) }
+    ensures columns { IfSome result (λ first. first.columns ≡ columns_of first.text.now) }
+{
+    let mut characters = text.chars();
+    let first = characters.next()?;
+    if is_flag_half(first) {
+        split_halves(text, first, characters.as_str())
+    } else {
+        None
+    }
 }
 
 /// Splits a flag off a text that begins with half of one, `first`, and goes on with `rest`, if a
 /// simple character, a flag or the end of the text follows it.
-fn split_flag<'a>(text: &'a str, first: char, rest: &str) -> Option<Front<'a>>
+fn split_halves<'a>(text: &'a str, first: char, rest: &str) -> Option<Front<'a>>
     requires half { is_flag_half first ≡ true }
     requires text { text.now ≡ encode_utf8 first ++ rest.now }
     ensures clusters { IfSome result (λ first.
@@ -83,7 +96,10 @@ pub(super) fn begins_apart(text: &str) -> bool
 fn begins_cluster(c: char) -> bool
     ensures { result ≡ (is_simple c || is_flag_half c) }
 {
-    is_simple(c) || is_flag_half(c)
+    if is_flag_half(c) {
+        return true;
+    }
+    is_simple(c)
 }
 
 /// Returns whether no rule that joins characters applies to this one. It is false for some others
@@ -126,11 +142,12 @@ fn is_late(c: char) -> bool
     let brackets = is_within(c, '\u{3000}', '\u{3029}');
     let hiragana = is_within(c, '\u{3030}', '\u{3098}');
     let ideographs = is_within(c, '\u{309B}', '\u{A66E}');
+    let hangul = is_within(c, '\u{AC00}', '\u{D7A3}');
     let wide_forms = is_within(c, '\u{FF00}', '\u{FF9D}');
     let tiles = is_within(c, '\u{1F000}', '\u{1F1E5}');
     let pictures = is_within(c, '\u{1F200}', '\u{1F3FA}');
     let faces = is_within(c, '\u{1F400}', '\u{3FFFF}');
-    brackets | hiragana | ideographs | wide_forms | tiles | pictures | faces
+    brackets | hiragana | ideographs | hangul | wide_forms | tiles | pictures | faces
 }
 
 pub(super) fn is_within(c: char, first: char, last: char) -> bool

@@ -16,9 +16,3 @@ returns-then-begins_apart-clause-clusters c =
 pub returns-then-begins_apart-clause-columns : goal.returns-then-begins_apart-clause-columns
 returns-then-begins_apart-clause-columns c =
     split-columns (simple c) c.split_before.result (λ f. f.text.now) (λ f. f.columns) c.split_before.ensures.text c.split_before.ensures.columns
-
-pub split_flag-requires : goal.split_flag-requires
-split_flag-requires c = record {
-  half = sym c.is_flag_half.ensures ∙ c.if-is_flag_half.true;
-  text = (cc (c.in_ok-first.ensures.steps.0, c.chars-characters.ensures.rest, c.as_str-after.ensures));
-}
