@@ -5,7 +5,7 @@ mod OccurrenceLemmas
 mod PatternLemmas
 mod AscendingLemmas
 pub mod ColumnLemmas
-mod ListedLemmas
+pub mod ListedLemmas
 mod PlaceLemmas
 mod PlainTextLemmas
 mod PlainTextReading

@@ -71,12 +71,13 @@ abbrev pub LiesFrom : List ℕ → ℕ → ℕ × ℕ → Type 0
 LiesFrom line after s = (after ≤ s.0 + 1) × IsCharBoundary line s.0
 
 module _ (tree : Re) (line : List ℕ) where
-  leftmost_boundary : (from : ℕ) (m : Match) → find_str tree line from ≡ Some m → (from ≤ m.start) × IsCharBoundary line m.start
+  -- a match starts at or after the byte at which the search for it begins, between characters
+  pub leftmost_boundary : (from : ℕ) (m : Match) → find_str tree line from ≡ Some m → (from ≤ m.start) × IsCharBoundary line m.start
   unfolding find_str
   leftmost_boundary from m e = grind (arith, common_steps, IsFirst-of_first_between _ from (length line) m e, IsCharBoundary-of_test, cond_some)
 
   -- the next match is the first one from the end of the last, or from one byte later
-  next_found : (after : ℕ) (m : Match) → next_match true tree line after ≡ Some m → (from : ℕ) × (after ≤ from + 1) × (find_str tree line from ≡ Some m)
+  pub next_found : (after : ℕ) (m : Match) → next_match true tree line after ≡ Some m → (from : ℕ) × (after ≤ from + 1) × (find_str tree line from ≡ Some m)
   next_found after m e =
       ⊎_elim
       (λ none. absurd (none-some m (sym none ∙ sym (next_same tree line true after (λ x f. absurd (none-some x (sym none ∙ f)))) ∙ e)))

@@ -6,26 +6,24 @@ use Rattle.std.specs.Option.{option_map_or}
 use Rattle.std.specs.Str.{chars}
 use Rattle.std.proofs.lemmas.Bool.{cases_lt}
 use Rattle.std.proofs.lemmas.Bool.Decides.{nat_tests}
-use Rattle.std.proofs.lemmas.Grind.{common_steps}
-use Rattle.std.proofs.lemmas.Option.{none-some, same_Some}
+use Rattle.std.proofs.lemmas.Option.{same_Some}
 use Rattle.std.proofs.lemmas.Str.{IsUtf8-string_bytes}
 use Rattle.std.proofs.lemmas.List.Elements.{All-append, All-cons, All-head, All-map, All-nil, All-tail, All-weaker}
 use Rattle.regex_syntax.specs.Brackets.{Nested}
 use Rattle.regex_syntax.specs.Grammar.{Names, read}
 use Rattle.regex_hir.specs.Re.{Re}
 use Rattle.regex_hir.specs.Find.{Match, find_all_str, find_str}
-use Rattle.regex_hir.proofs.AttemptLemmas.{cond_some}
 use Rattle.regex_hir.proofs.FindLemmas.{IsFirst-of_first_between, first_between_of_IsFirst}
 use Rattle.regex_hir.proofs.OptionLemmas.{option_cases}
 use Rattle.regex.specs.Patterns.{default_config, span}
 use Rattle.regex.specs.Search.{next_match}
-use Rattle.regex.proofs.SearchLemmas.{next_same, next_later, next_within, leftmost_within, matches_after_none, matches_after_some, matches_after_text}
-use Rattle.regex.proofs.Utf8Lemmas.{IsCharBoundary-of_test}
+use Rattle.regex.proofs.SearchLemmas.{next_within, leftmost_within, matches_after_none, matches_after_some, matches_after_text}
 use Rattle.textarea_search.specs.Columns.{column_of_byte}
 use Rattle.textarea_search.specs.Matches.{match_columns, match_spans}
 use Rattle.textarea_search.specs.Spans.{spans_after}
 use Rattle.textarea_search.specs.Starts.{is_later, starts_from}
 use Rattle.textarea_search.proofs.ColumnLemmas.{byte_at, column_at_boundary, column_later, column_of_span}
+use Rattle.textarea_search.proofs.ListedLemmas.{leftmost_boundary, next_found}
 use Rattle.textarea_text.specs.Place.{Place}
 use Rattle.textarea_text.specs.Text.{Symbol, lines, lines_of}
 use Rattle.tui_textarea.specs.Matches.{AreInTextOrder}
@@ -51,22 +49,9 @@ module _ (tree : Re) (line : List ℕ) where
       let first = IsFirst-of_first_between _ from (length line) m e in
       first_between_of_IsFirst _ m.start (length line) m (record { from = omega arith; to = first.to; here = first.here; before = λ i p q. absurd (omega arith) })
 
-  -- the next match is the first one from the end of the last, or from one byte later
-  next_found : (after : ℕ) (m : Match) → next_match true tree line after ≡ Some m → (from : ℕ) × (after ≤ from + 1) × (find_str tree line from ≡ Some m)
-  next_found after m e =
-      ⊎_elim
-      (λ none. absurd (none-some m (sym none ∙ sym (next_same tree line true after (λ x f. absurd (none-some x (sym none ∙ f)))) ∙ e)))
-      (λ (some : (x : Match) × (_ ≡ Some x)). elim (cases_lt some.0.trace.end after) [
-        | inl lt ↦ (after, omega arith, sym (next_later tree line true after some.0 some.1 lt) ∙ e)
-        | inr ge ↦
-            let same = next_same tree line true after (λ x f. subst (λ (y : Match). after ≤ y.trace.end) (same_Some _ _ (sym some.1 ∙ f)) ge) in
-            (after - 1, omega arith, sym same ∙ e)
-      ])
-      (option_cases (find_str tree line (after - 1)))
-
   next_rises : (from : ℕ) (m n : Match) → find_str tree line from ≡ Some m → next_match true tree line (m.trace.end + 1) ≡ Some n → m.start < n.start
   next_rises from m n found next =
-      let by = next_found (m.trace.end + 1) n next in
+      let by = next_found tree line (m.trace.end + 1) n next in
       let ordered = leftmost_within tree line true from m found in
       let later = leftmost_within tree line true by.0 n by.2 in
       let ends = next_within tree line true (m.trace.end + 1) n next in
@@ -80,10 +65,6 @@ module _ (tree : Re) (line : List ℕ) where
             absurd (omega (arith, ends.0, end))
       ]
 
-  at_boundary : (from : ℕ) (m : Match) → find_str tree line from ≡ Some m → IsCharBoundary line m.start
-  unfolding find_str
-  at_boundary from m e = grind (arith, common_steps, IsFirst-of_first_between _ from (length line) m e, IsCharBoundary-of_test, cond_some)
-
   spans_rise : (count after low : ℕ) → length line + 1 ≤ after + count → ((n : Match) → next_match true tree line after ≡ Some n → low ≤ n.start)
       → SpansRise line low (spans_after tree line after)
   spans_rise zero after low room bound =
@@ -96,10 +77,10 @@ module _ (tree : Re) (line : List ℕ) where
       (λ none. subst (λ ms. SpansRise line low (map span ms)) (sym (matches_after_none tree line true after none)) tt)
       (λ (some : (x : Match) × (_ ≡ Some x)).
       let m = some.0 in
-      let found = next_found after m some.1 in
+      let found = next_found tree line after m some.1 in
       let within = next_within tree line true after m some.1 in
       subst (λ ms. SpansRise line low (map span ms)) (sym (matches_after_some tree line true after m some.1))
-      (bound m some.1, at_boundary found.0 m found.2, spans_rise count (m.trace.end + 1) (m.start + 1) (omega (arith, within, room)) (λ n next. omega (arith, next_rises found.0 m n found.2 next))))
+      (bound m some.1, (leftmost_boundary tree line found.0 m found.2).1, spans_rise count (m.trace.end + 1) (m.start + 1) (omega (arith, within, room)) (λ n next. omega (arith, next_rises found.0 m n found.2 next))))
       (option_cases (next_match true tree line after))
 
 -- ---- columns

@@ -222,9 +222,9 @@ state_after state call = state
 -- The splices of the call in this state, one after another. An insertion over selected text has
 -- two, first the removal of that text; a replacement has at most two, and one of several matches at
 -- most two for each of them; indenting and outdenting have one for each line, and lines that move
--- have two; any other edit, undo or redo has one, or those of a group; a call that
--- changes nothing in the text has none. The call that sets lines replaces the text, and has none. Those of
--- inputs are defined elsewhere.
+-- have two; any other edit, undo or redo has one, or those of a group; a call that changes nothing in
+-- the text has none. The call that sets lines replaces the text, and has none. Those of inputs are
+-- defined elsewhere.
 abbrev pub call_splices : State → Call → List Splice
 call_splices state (call.InsertChar c) = char_splices state c
 call_splices state (call.InsertStr text) = str_splices state (fragment_symbols (chars text.now))
