@@ -20,16 +20,17 @@ def command_rows(table):
 
 
 def new_rows(table):
-    """The table of calls that the Rust crate doesn't have, each with the first sentence of its comment."""
-    rows = []
+    """The table of calls that the Rust crate doesn't have, a row for each topic."""
+    rows = {}
     for call in table.calls:
         if call.is_new:
             types = ", ".join(type for _, type in call.arguments)
             wraps = call.memory and not (call.result or "").startswith("Result<")
             result = f"Result<{call.result or '()'}>" if wraps else call.result
-            first, *_ = call.doc.removesuffix(".").split(". ")
-            rows.append(f"| `{call.name}({types}){f' -> {result}' if result else ''}` | {first}. |")
-    return ["| Here | What it does |", "|---|---|", *rows]
+            written = f"`{call.name}({types}){f' -> {result}' if result else ''}`"
+            rows.setdefault(call.topic, []).append(written)
+    written = [f"| {topic} | {', '.join(calls)} |" for topic, calls in rows.items()]
+    return ["| Topic | Calls that are only here |", "|---|---|", *written]
 
 
 def rule_rows(topic):
