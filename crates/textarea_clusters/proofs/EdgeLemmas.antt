@@ -59,6 +59,12 @@ breaks_after : (after : List ℕ) → is_grapheme_break true [] after ≡ true
 unfolding is_grapheme_break
 breaks_after after = refl
 
+pub edge_at_start : (line : List ℕ) → is_cluster_edge line 0 ≡ true
+edge_at_start line = breaks_after line
+
+pub edge_at_end : (line : List ℕ) → is_cluster_edge line (length line) ≡ true
+edge_at_end line = ap (is_grapheme_break true (reverse (take (length line) line))) (drop_all (length line) line (omega arith)) ∙ breaks_before (reverse (take (length line) line))
+
 pub inside_start : (line : List ℕ) (at : ℕ) → breaks_at (is_grapheme_break true) line at ≡ false → 0 < at
 inside_start line zero none =
     absurd (false≢true (sym none ∙ ap (λ (cs : List ℕ). is_grapheme_break true (reverse cs) (chars line)) chars-nil ∙ breaks_after (chars line)))

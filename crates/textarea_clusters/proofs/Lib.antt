@@ -1,1 +1,2 @@
 pub mod EdgeLemmas
+pub mod StopLemmas

@@ -1,4 +1,6 @@
-//! The grapheme clusters of a line: at which columns one begins or ends.
+//! Where a cursor stops that goes by whole characters: at the edges of grapheme clusters, outside
+//! of atomic ranges.
 #![tactic(auto)]
 
 pub mod edges;
+pub mod stops;

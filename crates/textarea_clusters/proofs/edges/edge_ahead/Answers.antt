@@ -1,4 +1,4 @@
-use Rattle.std.proofs.Common.{◌≡◌, ◌∙◌, ◌+◌, ◌<◌, ap, arith, false, length, slice_range, subst, sym, true}
+use Rattle.std.proofs.Common.{◌∙◌, ◌+◌, ◌<◌, ap, arith, length, slice_range, subst, sym, true}
 use Rattle.std.specs.Str.{chars, IsCharBoundary}
 use Rattle.textarea_util.proofs.Characters.{length-chars}
 use Rattle.unicode_segmentation.specs.Grapheme.{is_grapheme_break}
