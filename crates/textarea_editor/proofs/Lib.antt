@@ -5,6 +5,7 @@ mod FileLines
 mod Texts
 mod Times
 mod Clicks
+mod Runs
 mod Saved
 mod Searches
 mod Replacing

@@ -1,8 +1,10 @@
 -- What decides what the next event does, after each event, as a table.
 use Rattle.std.specs.Prelude.{◌≡◌, ◌≢◌, ◌-◌, ◌==◌, ℕ, nat_lt, not, Bool, true, false, [], Option, Some, None, is_some, if◌then◌else◌}
+use Rattle.std.specs.declared.time.Duration.{Duration}
 use Rattle.textarea_data.specs.declared.input.Input.{Input}
 use Rattle.textarea_data.specs.declared.input.Key.{Key}
 use Rattle.textarea_data.specs.declared.input.Key.TheVariants.{MouseScrollDown, MouseScrollUp}
+use Rattle.textarea_editor.specs.Clicks.{press_after}
 use Rattle.textarea_editor.specs.EventCalls.{IsBoundCommand}
 use Rattle.textarea_editor.specs.HelpKeys.{help_key}
 use Rattle.textarea_editor.specs.Patterns.{toggled}
@@ -31,6 +33,7 @@ use Rattle.textarea_modal.specs.Table.{Step, step}
 use Rattle.textarea_modal.specs.declared.mode.Mode.{Mode}
 use Rattle.textarea_terminal.specs.declared.input.event.Event.{Event}
 use Rattle.textarea_terminal.specs.declared.input.event.Event.TheVariants as event
+use Rattle.textarea_terminal.specs.declared.input.event.Mouse.{Mouse}
 use Rattle.textarea_text.specs.Place.{Place}
 use Rattle.tui_textarea.specs.State.{State}
 
@@ -174,7 +177,12 @@ IsAfterInput (focus.Question question) controls named changed cursor matches fie
 IsAfterInput focus.Replace controls named changed cursor matches field input new = new ≡ after_replace_key (replace_key input) controls changed
 IsAfterInput focus.Help controls named changed cursor matches field input new = new ≡ after_help_key (help_key input) controls changed
 
--- an event; before it the text has a cursor and a number of matches, and after it it may have changed or not
-abbrev pub IsAfterEvent : Controls → Bool → Bool → Place → ℕ → State → Event → Controls → Type 0
-IsAfterEvent controls named changed cursor matches field (event.Input input) new = IsAfterInput controls.focus controls named changed cursor matches field (typed_input input) new
-IsAfterEvent controls named changed cursor matches field other new = new ≡ controls
+-- a report of the mouse at a time
+abbrev pub after_mouse : Controls → Duration → Mouse → Controls
+after_mouse controls now mouse = record controls { pressed = press_after controls.pressed now mouse mouse.kind }
+
+-- an event at a time; before it the text has a cursor and a number of matches, and after it it may have changed or not
+abbrev pub IsAfterEvent : Controls → Bool → Bool → Place → ℕ → State → Duration → Event → Controls → Type 0
+IsAfterEvent controls named changed cursor matches field now (event.Input input) new = IsAfterInput controls.focus controls named changed cursor matches field (typed_input input) new
+IsAfterEvent controls named changed cursor matches field now (event.Mouse mouse) new = new ≡ after_mouse controls now mouse
+IsAfterEvent controls named changed cursor matches field now other new = new ≡ controls

@@ -1,8 +1,9 @@
 -- The calls on the text area that each event makes, as a table: by what the next key is for, the
 -- key, and the command that it is bound to.
-use Rattle.std.specs.Prelude.{◌≡◌, ◌⊎◌, ◌<◌, ◌≤◌, ℕ, ◌-◌, ◌==◌, ◌&&◌, ◌||◌, nat_lt, not, Bool, true, false, List, [], ◌∷◌, ◌++◌, Option, Some, None, is_some, if◌then◌else◌, slice_index_or, String, string_bytes, All, Contains, codes, pos, negsuc}
+use Rattle.std.specs.Prelude.{◌≡◌, ◌⊎◌, ◌<◌, ◌≤◌, ℕ, ◌-◌, ◌==◌, ◌&&◌, ◌||◌, nat_lt, min, not, Bool, true, false, List, [], ◌∷◌, ◌++◌, Option, Some, None, is_some, if◌then◌else◌, slice_index_or, String, string_bytes, All, Contains, codes, pos, negsuc}
 use Rattle.std.specs.Str.{chars}
 use Rattle.std.specs.declared.alloc.Global.{Global}
+use Rattle.std.specs.declared.time.Duration.{Duration}
 use Rattle.textarea_calls.specs.declared.call.Call.{Call}
 use Rattle.textarea_calls.specs.declared.call.Call.TheVariants as call
 use Rattle.textarea_data.specs.declared.cursor.CursorMove.TheVariants as move
@@ -11,14 +12,20 @@ use Rattle.textarea_data.specs.declared.scroll.Scrolling.TheVariants as scrollin
 use Rattle.textarea_data.specs.declared.measure.TextAreaMeasure.{TextAreaMeasure}
 use Rattle.textarea_data.specs.declared.input.Key.{Key}
 use Rattle.textarea_data.specs.declared.input.Key.TheVariants.{Char, End, Esc, F, Home, MouseScrollDown, MouseScrollUp, Tab}
+use Rattle.textarea_editor.specs.Clicks.{click_below, click_by, clicks_of}
 use Rattle.textarea_editor.specs.Effects.{optional_bytes}
+use Rattle.textarea_editor.specs.Extents.{IsExtent}
 use Rattle.textarea_editor.specs.LineNumber.{IsLineNumber, row_of_line}
 use Rattle.textarea_editor.specs.Patterns.{borrowed, first_line, search_call, toggled}
 use Rattle.textarea_editor.specs.PromptKeys.{prompt_key}
 use Rattle.textarea_editor.specs.ReplaceKeys.{replace_key}
 use Rattle.textarea_editor.specs.TypedInput.{typed_input}
+use Rattle.textarea_editor.specs.declared.click.Click.{Click}
+use Rattle.textarea_editor.specs.declared.click.Click.TheVariants as click
+use Rattle.textarea_editor.specs.declared.click.Press.{Press}
 use Rattle.textarea_editor.specs.declared.controls.Controls.{Controls}
 use Rattle.textarea_editor.specs.declared.editor.Editor.{Editor}
+use Rattle.textarea_editor.specs.declared.click.Extent.{Extent}
 use Rattle.textarea_editor.specs.declared.focus.Asked.{Asked}
 use Rattle.textarea_editor.specs.declared.focus.Asked.TheVariants as asks
 use Rattle.textarea_editor.specs.declared.focus.Focus.{Focus}
@@ -40,9 +47,6 @@ use Rattle.textarea_screen.specs.declared.screen.style.Style.{Style}
 use Rattle.textarea_terminal.specs.declared.input.event.Event.{Event}
 use Rattle.textarea_terminal.specs.declared.input.event.Event.TheVariants as event
 use Rattle.textarea_terminal.specs.declared.input.event.Mouse.{Mouse}
-use Rattle.textarea_terminal.specs.declared.input.event.MouseButton.TheVariants.{Left}
-use Rattle.textarea_terminal.specs.declared.input.event.MouseKind.{MouseKind}
-use Rattle.textarea_terminal.specs.declared.input.event.MouseKind.TheVariants.{Drag, Press}
 use Rattle.textarea_text.specs.Fragment.{fragment_symbols}
 use Rattle.textarea_text.specs.Place.{Place}
 use Rattle.textarea_text.specs.Text.{lines}
@@ -284,16 +288,15 @@ IsPaste focus.Text editor text calls = calls ≡ paste_calls text
 IsPaste (focus.Prompt asked) editor text calls = IsPasteInPrompt asked editor.controls editor.field text calls
 IsPaste other editor text calls = calls ≡ []
 
--- whether the mouse moves the cursor, and then whether it selects up to there
-abbrev pub selects_by : MouseKind → Bool → Option Bool
-selects_by (Press Left) shift = Some shift
-selects_by (Drag Left) shift = Some true
-selects_by other shift = None
+-- what the mouse does after the last press, if the text has the focus: in a row of the text, or below
+-- it in the status row
+abbrev pub click_of : Focus → ℕ → Option Press → Duration → Mouse → Option Click
+click_of focus.Text rows last now mouse = if nat_lt mouse.row (rows - 1) then click_by mouse.kind mouse.shift (clicks_of last now mouse) else click_below mouse.kind last (rows - 1)
+click_of other rows last now mouse = None
 
--- the same, if the text has the focus and the mouse is in a row above the status row
-abbrev pub click_of : Focus → ℕ → Mouse → Option Bool
-click_of focus.Text rows mouse = if nat_lt mouse.row (rows - 1) then selects_by mouse.kind mouse.shift else None
-click_of other rows mouse = None
+-- the row of the text that is the nearest one to a row of the screen, which has this number of rows
+abbrev pub nearest_row : ℕ → ℕ → ℕ
+nearest_row rows row = min row (rows - 1 - 1)
 
 -- a selection is opened, stays open, or is dropped; one is open before or not
 abbrev pub selection_calls : Bool → Bool → List Call
@@ -301,25 +304,53 @@ selection_calls true true = []
 selection_calls true false = call.StartSelection ∷ []
 selection_calls false selecting = call.CancelSelection ∷ []
 
--- to the position that a cell shows, if it shows one
-abbrev pub click_calls : Bool → Bool → Option Place → List Call
-click_calls selects selecting None = []
-click_calls selects selecting (Some place) = selection_calls selects selecting ++ call.GoTo place ∷ []
+-- to a position, or to the visual row below it
+abbrev pub to_calls : Bool → Place → List Call
+to_calls false place = call.GoTo place ∷ []
+to_calls true place = call.GoTo place ∷ call.Move move.Down ∷ []
+
+-- to the position that a cell shows, or to the row below it, if it shows one
+abbrev pub click_calls : Bool → Bool → Bool → Option Place → List Call
+click_calls selects below selecting None = []
+click_calls selects below selecting (Some place) = selection_calls selects selecting ++ to_calls below place
 
 -- a click at a column and row
-pub record IsClick (selects selecting : Bool) (widget : WidgetState) (column row : ℕ) (calls : List Call) : Type 0 where
+pub record IsClick (selects below selecting : Bool) (widget : WidgetState) (column row : ℕ) (calls : List Call) : Type 0 where
   pub found : Option Place
   pub found_is : IsHitTest widget column row found
-  pub calls_are : calls ≡ click_calls selects selecting found
+  pub calls_are : calls ≡ click_calls selects below selecting found
 
-abbrev pub IsMouse : Option Bool → Bool → WidgetState → Mouse → List Call → Type 0
-IsMouse None selecting widget mouse calls = calls ≡ []
-IsMouse (Some selects) selecting widget mouse calls = IsClick selects selecting widget mouse.column mouse.row calls
+-- from one position to another, and all between is selected
+abbrev pub ends_calls : Option (Place × Place) → List Call
+ends_calls None = []
+ends_calls (Some ends) = call.GoTo ends.0 ∷ call.StartSelection ∷ call.GoTo ends.1 ∷ []
+
+-- the ends of the word or line at a position, if there is one
+abbrev pub IsExtentFound : Extent → List (List ℕ) → Option Place → Option (Place × Place) → Type 0
+IsExtentFound extent rows None ends = ends ≡ None
+IsExtentFound extent rows (Some place) ends = IsExtent extent rows place ends
+
+-- a click at a column and row that selects the word or line there
+pub record IsWholeClick (extent : Extent) (widget : WidgetState) (column row : ℕ) (calls : List Call) : Type 0 where
+  pub found : Option Place
+  pub found_is : IsHitTest widget column row found
+  pub ends : Option (Place × Place)
+  pub ends_are : IsExtentFound extent (lines widget.document.text) found ends
+  pub calls_are : calls ≡ ends_calls ends
+
+-- what a click does at a column and row
+abbrev pub IsMouse : Option Click → Bool → WidgetState → ℕ → ℕ → List Call → Type 0
+IsMouse None selecting widget column row calls = calls ≡ []
+IsMouse (Some (click.To selects)) selecting widget column row calls = IsClick selects false selecting widget column row calls
+IsMouse (Some (click.Whole extent)) selecting widget column row calls = IsWholeClick extent widget column row calls
+IsMouse (Some click.Below) selecting widget column row calls = IsClick true true selecting widget column row calls
 
 -- ---- events
 
-abbrev pub IsEvent : Editor → State → Event → List Call → Type 0
-IsEvent editor area (event.Input input) calls = IsInput editor.controls.focus editor area (typed_input input) calls
-IsEvent editor area (event.Paste text) calls = IsPaste editor.controls.focus editor (string_bytes text) calls
-IsEvent editor area (event.Mouse mouse) calls = IsMouse (click_of editor.controls.focus editor.rows mouse) (is_selecting area) (widget_of area) mouse calls
-IsEvent editor area other calls = calls ≡ []
+-- an event at a time
+abbrev pub IsEvent : Editor → State → Duration → Event → List Call → Type 0
+IsEvent editor area now (event.Input input) calls = IsInput editor.controls.focus editor area (typed_input input) calls
+IsEvent editor area now (event.Paste text) calls = IsPaste editor.controls.focus editor (string_bytes text) calls
+IsEvent editor area now (event.Mouse mouse) calls =
+    IsMouse (click_of editor.controls.focus editor.rows editor.controls.pressed now mouse) (is_selecting area) (widget_of area) mouse.column (nearest_row editor.rows mouse.row) calls
+IsEvent editor area now other calls = calls ≡ []

@@ -109,6 +109,7 @@ impl Editor {
                 search: SearchOptions::plain(),
                 matches: 0,
                 ends_when_saved: false,
+                pressed: None,
             },
             message: Message::Nothing,
             columns,

@@ -1,51 +1,17 @@
 //! Moves of the cursor to a position.
 ghost use Rattle.std.specs.Prelude.{◌∷◌, [], Some, OnErr, OnOk};
 ghost use Rattle.textarea_calls.specs.declared.call.Call.TheVariants.{GoTo};
-ghost use Rattle.textarea_editor.specs.Draft.{FailsIn, FailsInSome, Makes, MakesSome};
-ghost use Rattle.textarea_editor.specs.EventCalls.{IsClick, find_calls, is_selecting, look_calls, row_calls, selection_calls};
+ghost use Rattle.textarea_editor.specs.Draft.{FailsIn, Makes};
+ghost use Rattle.textarea_editor.specs.EventCalls.{find_calls, look_calls, row_calls};
 ghost use Rattle.textarea_editor.specs.Patterns.{pattern_call, search_call};
-ghost use Rattle.tui_textarea.specs.Drawing.{widget_of};
 
 use crate::draft::Draft;
 use crate::pattern::pattern_of;
 use crate::search::SearchOptions;
 use std::alloc::AllocError;
 use textarea_calls::Call;
-use textarea_screen::screen::Position;
 
 impl Draft {
-    /// Moves the cursor to what a cell shows, if it shows a position, and selects up to there or
-    /// drops the selection.
-    pub fn click(&mut self, cell: Position, selects: bool) -> Result<(), AllocError>
-        ensures ok { OnOk result
-            (MakesSome (IsClick selects (is_selecting self.old.area) (widget_of self.old.area)
-            cell.x cell.y) self.old self.new) }
-        ensures err { OnErr result
-            (FailsInSome (IsClick selects (is_selecting self.old.area) (widget_of self.old.area)
-            cell.x cell.y) self.old self.new) }
-    {
-        let Some(place) = self.area().cursor_at_position(cell)? else {
-            return Ok(());
-        };
-        self.select(selects)?;
-        self.move_to(place)
-    }
-
-    // Opens a selection, unless one is open, or drops it.
-    fn select(&mut self, selects: bool) -> Result<(), AllocError>
-        ensures ok { OnOk result
-            (Makes self.old (selection_calls selects (is_selecting self.old.area)) self.new) }
-        ensures err { OnErr result
-            (FailsIn self.old (selection_calls selects (is_selecting self.old.area)) self.new) }
-    {
-        if !selects {
-            self.make(&[Call::CancelSelection])?;
-        } else if !self.area().is_selecting() {
-            self.make(&[Call::StartSelection])?;
-        }
-        Ok(())
-    }
-
     /// Moves the cursor to the position (row, column). An open selection stays open.
     pub(crate) fn move_to(&mut self, place: (usize, usize)) -> Result<(), AllocError>
         ensures ok { OnOk result (Makes self.old (GoTo place ∷ []) self.new) }
