@@ -8,3 +8,4 @@ mod Clicks
 mod Saved
 mod Searches
 mod Replacing
+mod Indents

@@ -11,7 +11,9 @@ use Rattle.textarea_data.specs.declared.scroll.Scrolling.TheVariants as scrollin
 use Rattle.textarea_data.specs.declared.measure.TextAreaMeasure.{TextAreaMeasure}
 use Rattle.textarea_data.specs.declared.input.Key.{Key}
 use Rattle.textarea_data.specs.declared.input.Key.TheVariants.{Char, End, Esc, F, Home, MouseScrollDown, MouseScrollUp, Tab}
+use Rattle.textarea_document.specs.DocumentState.{DocumentState}
 use Rattle.textarea_editor.specs.Effects.{optional_bytes}
+use Rattle.textarea_editor.specs.Indents.{keeps_indent, line_break}
 use Rattle.textarea_editor.specs.LineNumber.{IsLineNumber, row_of_line}
 use Rattle.textarea_editor.specs.Patterns.{borrowed, first_line, search_call, toggled}
 use Rattle.textarea_editor.specs.PromptKeys.{prompt_key}
@@ -139,10 +141,19 @@ command_calls wraps numbers selecting command.Cancel = call.CancelSelection ∷ 
 
 -- ---- other keys in the text
 
+-- the line is broken, and its indent kept
+abbrev pub break_calls : DocumentState → List Call
+break_calls document = call.InsertStr (borrowed (line_break document)) ∷ []
+
+-- a key of the text area, which breaks the line and keeps its indent or does anything else
+abbrev pub own_calls : Bool → DocumentState → Input → List Call
+own_calls true document input = break_calls document
+own_calls false document input = passed_on input ∷ []
+
 -- a key of the modal editor, if there is one, or of the text area
-abbrev pub typed_calls : Option Mode → Input → List Call
-typed_calls None input = passed_on input ∷ []
-typed_calls (Some mode) input = (step mode input).calls
+abbrev pub typed_calls : Option Mode → Bool → DocumentState → Input → List Call
+typed_calls None indents document input = own_calls (keeps_indent indents input) document input
+typed_calls (Some mode) indents document input = (step mode input).calls
 
 -- the wheel scrolls down by three rows, but not if all rows of the text are shown
 abbrev pub wheel_calls : Bool → List Call
@@ -150,10 +161,10 @@ wheel_calls true = []
 wheel_calls false = call.Scroll (scrolling.Delta (pos 3) (pos 0)) ∷ []
 
 -- a key that is bound to no command; all rows of the text fit into the screen or not
-abbrev pub unbound_calls : Bool → Option Mode → Key → Input → List Call
-unbound_calls fits modal MouseScrollDown input = wheel_calls fits
-unbound_calls fits modal MouseScrollUp input = call.Scroll (scrolling.Delta (negsuc 2) (pos 0)) ∷ []
-unbound_calls fits modal other input = typed_calls modal input
+abbrev pub unbound_calls : Bool → Controls → DocumentState → Key → Input → List Call
+unbound_calls fits controls document MouseScrollDown input = wheel_calls fits
+unbound_calls fits controls document MouseScrollUp input = call.Scroll (scrolling.Delta (negsuc 2) (pos 0)) ∷ []
+unbound_calls fits controls document other input = typed_calls controls.modal controls.keeps_indent document input
 
 -- whether all rows of the text fit into this area; where it isn't laid out for this width, memory may
 -- run out for that, and then it counts as not fitting
@@ -164,9 +175,9 @@ IsFit area columns rows false = ((measure : TextAreaMeasure) × IsMeasured area 
 abbrev pub is_selecting : State → Bool
 is_selecting area = is_some area.document.anchor
 
-abbrev pub key_calls : Option KeyCommand → Bool → Option Mode → Bool → Bool → Bool → Input → List Call
-key_calls (Some found) fits modal wraps numbers selecting input = command_calls wraps numbers selecting found
-key_calls None fits modal wraps numbers selecting input = unbound_calls fits modal input.key input
+abbrev pub key_calls : Option KeyCommand → Bool → Controls → Bool → DocumentState → Input → List Call
+key_calls (Some found) fits controls selecting document input = command_calls controls.wraps controls.numbers selecting found
+key_calls None fits controls selecting document input = unbound_calls fits controls document input.key input
 
 -- an input in the text
 pub record IsKeyInText (controls : Controls) (area : State) (columns rows : ℕ) (input : Input) (calls : List Call) : Type 0 where
@@ -174,7 +185,7 @@ pub record IsKeyInText (controls : Controls) (area : State) (columns rows : ℕ)
   pub found : IsBoundCommand input (is_some controls.modal) command
   pub fits : Bool
   pub is_fit : IsFit area columns rows fits
-  pub calls_are : calls ≡ key_calls command fits controls.modal controls.wraps controls.numbers (is_selecting area) input
+  pub calls_are : calls ≡ key_calls command fits controls (is_selecting area) area.document input
 
 -- ---- the prompt
 

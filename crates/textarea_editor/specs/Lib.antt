@@ -8,6 +8,7 @@ pub mod EventCalls
 pub mod EventEffects
 pub mod FileText
 pub mod HelpKeys
+pub mod Indents
 pub mod JournalQuestions
 pub mod LineNumber
 pub mod Patterns

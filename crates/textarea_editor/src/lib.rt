@@ -15,6 +15,7 @@ pub mod effect;
 pub mod file_text;
 pub mod focus;
 pub mod help;
+pub mod indent;
 pub mod key_names;
 pub mod keys;
 pub mod laws;
