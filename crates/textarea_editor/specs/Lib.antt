@@ -11,6 +11,7 @@ pub mod HelpKeys
 pub mod Indents
 pub mod JournalQuestions
 pub mod LineNumber
+pub mod Pages
 pub mod Patterns
 pub mod Positions
 pub mod PromptKeys

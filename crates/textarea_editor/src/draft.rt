@@ -18,6 +18,7 @@ ghost use Rattle.textarea_text.specs.Text.{lines_of};
 
 pub mod breaking;
 pub mod moving;
+pub mod paging;
 
 use std::alloc::{AllocError, Global};
 use std::time::Duration;

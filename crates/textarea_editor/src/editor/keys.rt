@@ -58,11 +58,11 @@ impl Editor {
     // Takes a key that is none of the table. The text fits into the screen or not.
     fn take_unbound(&mut self, input: &Input, fits: bool) -> Result<Effect, AllocError>
         ensures ok { OnOk result (Makes self.old.draft
-            (unbound_calls fits self.old.controls self.old.draft.area.document input.now.key
-            input.now) self.new.draft) }
+            (unbound_calls fits self.old.controls self.old.draft.area.document
+            self.old.draft.area.drawing.viewport input.now.key input.now) self.new.draft) }
         ensures err { OnErr result (FailsIn self.old.draft
-            (unbound_calls fits self.old.controls self.old.draft.area.document input.now.key
-            input.now) self.new.draft) }
+            (unbound_calls fits self.old.controls self.old.draft.area.document
+            self.old.draft.area.drawing.viewport input.now.key input.now) self.new.draft) }
         ensures carries { IfOk result
             (Carries (MayQuit self.old self.new.draft) self.new.draft.area self.new.line_end) }
         ensures effect { IfOk result (IsUnboundEffect input.now.key self.old.controls.modal
@@ -83,11 +83,11 @@ impl Editor {
     // Takes a key of the modal editor, if there is one, or of the text area.
     fn take_typed(&mut self, input: &Input) -> Result<Effect, AllocError>
         ensures ok { OnOk result (Makes self.old.draft (typed_calls self.old.controls.modal
-            self.old.controls.keeps_indent self.old.draft.area.document input.now)
-            self.new.draft) }
+            self.old.controls.keeps_indent self.old.draft.area.document
+            self.old.draft.area.drawing.viewport input.now) self.new.draft) }
         ensures err { OnErr result (FailsIn self.old.draft (typed_calls self.old.controls.modal
-            self.old.controls.keeps_indent self.old.draft.area.document input.now)
-            self.new.draft) }
+            self.old.controls.keeps_indent self.old.draft.area.document
+            self.old.draft.area.drawing.viewport input.now) self.new.draft) }
         ensures carries { IfOk result
             (Carries (MayQuit self.old self.new.draft) self.new.draft.area self.new.line_end) }
         ensures effect { IfOk result (IsTypedEffect self.old.controls.modal
@@ -107,10 +107,12 @@ impl Editor {
     fn take_own(&mut self, input: &Input) -> Result<Effect, AllocError>
         ensures ok { OnOk result (Makes self.old.draft
             (own_calls (keeps_indent self.old.controls.keeps_indent input.now)
-            self.old.draft.area.document input.now) self.new.draft) }
+            self.old.draft.area.document self.old.draft.area.drawing.viewport input.now)
+            self.new.draft) }
         ensures err { OnErr result (FailsIn self.old.draft
             (own_calls (keeps_indent self.old.controls.keeps_indent input.now)
-            self.old.draft.area.document input.now) self.new.draft) }
+            self.old.draft.area.document self.old.draft.area.drawing.viewport input.now)
+            self.new.draft) }
         ensures carries { IfOk result
             (Carries (MayQuit self.old self.new.draft) self.new.draft.area self.new.line_end) }
         ensures effect { IfOk result IsNothing }
@@ -121,7 +123,7 @@ impl Editor {
             self.draft.break_line()?;
             return Ok(Effect::Nothing);
         }
-        self.draft.input(input)?;
+        self.draft.take_input(input)?;
         Ok(Effect::Nothing)
     }
 
