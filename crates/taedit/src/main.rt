@@ -1,5 +1,5 @@
 // Edits a file in a terminal that `bin/taedit` prepares:
-// taedit [--modal] [--no-final-newline] [--restore] [+LINE[,COLUMN]] [--] [FILE]
+// taedit [--modal] [--no-final-newline] [--no-indent] [--restore] [+LINE[,COLUMN]] [--] [FILE]
 #![tactic(auto)]
 
 use anyhow::{Result, bail};
@@ -21,7 +21,7 @@ fn main(rt: HostRuntime) -> Result<()> {
     match Arguments::read(words.as_slice()) {
         Some(arguments) => edit(&rt, arguments),
         None => bail!(
-            "usage: taedit [--modal] [--no-final-newline] [--restore] [+LINE[,COLUMN]] [--] [FILE]"
+            "usage: taedit [--modal] [--no-final-newline] [--no-indent] [--restore] [+LINE[,COLUMN]] [--] [FILE]"
         ),
     }
 }
@@ -31,6 +31,7 @@ fn edit(rt: &HostRuntime, arguments: Arguments<'_>) -> Result<()> {
     let (columns, rows) = (size_in(rt, "COLUMNS", 80), size_in(rt, "LINES", 24));
     let mut editor = Editor::new(rt.alloc(), columns, rows, arguments.is_modal)?;
     editor.set_closes_last(arguments.closes_last);
+    editor.set_keeps_indent(arguments.keeps_indent);
     let outcome = edit_with(rt, &mut editor, arguments);
     drop(editor);
     outcome

@@ -22,6 +22,7 @@ use Rattle.tui_textarea.specs.State.{State}
 
 pub result_plain : (old : State) (this : Call) (returned : CallResult) → IsResultOf old this returned → IsResultOf old (plain_call this) returned
 result_plain old (call.Input input) returned is = is
+result_plain old (call.InsertStr text) returned is = is
 result_plain old (call.InsertPasted text) returned is = is
 result_plain old (call.SetSearchPattern text) returned is = is
 result_plain old (call.SetSearchText text ignore_case whole_word) returned is = is
@@ -31,6 +32,7 @@ result_plain old other returned is = is
 
 pub after_plain : (old : State) (this : Call) (returned : CallResult) (new : State) → IsAfterCall old this returned new → IsAfterCall old (plain_call this) returned new
 after_plain old (call.Input input) returned new after = after
+after_plain old (call.InsertStr text) returned new after = after
 after_plain old (call.InsertPasted text) returned new after = after
 after_plain old (call.SetSearchPattern text) returned new after = after
 after_plain old (call.SetSearchText text ignore_case whole_word) returned new after = after
@@ -40,6 +42,7 @@ after_plain old other returned new after = after
 
 pub ran_out_plain : (this : Call) (before new : State) → RanOutOfMemory before this new → RanOutOfMemory before (plain_call this) new
 ran_out_plain (call.Input input) before new ran = record { may = ran.may; left = ran.left }
+ran_out_plain (call.InsertStr text) before new ran = record { may = ran.may; left = ran.left }
 ran_out_plain (call.InsertPasted text) before new ran = record { may = ran.may; left = ran.left }
 ran_out_plain (call.SetSearchPattern text) before new ran = record { may = ran.may; left = ran.left }
 ran_out_plain (call.SetSearchText text ignore_case whole_word) before new ran = record { may = ran.may; left = ran.left }

@@ -9,3 +9,4 @@ mod Runs
 mod Saved
 mod Searches
 mod Replacing
+mod Indents

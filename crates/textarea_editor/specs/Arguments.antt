@@ -14,10 +14,12 @@ use Rattle.textarea_editor.specs.declared.arguments.Word.TheVariants as word
 pub record IsOption (text : List ℕ) (kind : Word) : Type 0 where
   pub modal : text ≡ codes "--modal" → kind ≡ word.Modal
   pub no_final_newline : text ≡ codes "--no-final-newline" → kind ≡ word.NoFinalNewline
+  pub no_indent : text ≡ codes "--no-indent" → kind ≡ word.NoIndent
   pub restore : text ≡ codes "--restore" → kind ≡ word.Restore
   pub unnamed : text ≡ codes "--unnamed" → kind ≡ word.Unnamed
   pub end : text ≡ codes "--" → kind ≡ word.End
-  pub other : text ≢ codes "--modal" → text ≢ codes "--no-final-newline" → text ≢ codes "--restore" → text ≢ codes "--unnamed" → text ≢ codes "--" → kind ≡ word.Unknown
+  pub other :
+      text ≢ codes "--modal" → text ≢ codes "--no-final-newline" → text ≢ codes "--no-indent" → text ≢ codes "--restore" → text ≢ codes "--unnamed" → text ≢ codes "--" → kind ≡ word.Unknown
 
 abbrev pub position_word : Option (ℕ × ℕ) → Word
 position_word (Some position) = word.Position position
@@ -60,6 +62,7 @@ IsNamed read names found = found ≡ None
 abbrev pub IsAfterWord : Word → Arguments → List (String Global) → List (String Global) → (Arguments → Type 0) → Option Arguments → Type 0
 IsAfterWord word.Modal read words rest Later found = Later (record read { is_modal = true })
 IsAfterWord word.NoFinalNewline read words rest Later found = Later (record read { closes_last = false })
+IsAfterWord word.NoIndent read words rest Later found = Later (record read { keeps_indent = false })
 IsAfterWord word.Restore read words rest Later found = Later (record read { restores = true })
 IsAfterWord word.Unnamed read words rest Later found = Later (record read { is_unnamed = true })
 IsAfterWord (word.Position position) read words rest Later found = Later (record read { position = Some position })
@@ -74,10 +77,10 @@ IsReadOn read (first ∷ rest) found =
     (kind : Word) × IsWord (string_bytes first) kind
     × IsAfterWord kind read (first ∷ rest) rest (λ more. IsReadOn more rest found) found
 
--- without arguments: the keys of the text area, a line end after the last line of a new file, a
--- question about a journal, no position and no name
+-- without arguments: the keys of the text area, a line end after the last line of a new file, indents
+-- that Enter keeps, a question about a journal, no position and no name
 abbrev pub nothing_read : Arguments
-nothing_read = record { is_modal = false; closes_last = true; restores = false; is_unnamed = false; position = None; name = None }
+nothing_read = record { is_modal = false; closes_last = true; keeps_indent = true; restores = false; is_unnamed = false; position = None; name = None }
 
 abbrev pub IsRead : List (String Global) → Option Arguments → Type 0
 IsRead words found = IsReadOn nothing_read words found

@@ -3,7 +3,7 @@ use Rattle.std.specs.Prelude.{◌≡◌, ◌⊎◌, ◌≤◌, ◌↔◌, ℕ, B
 use Rattle.std.specs.declared.alloc.Global.{Global}
 use Rattle.textarea_calls.specs.Topics.{draws}
 use Rattle.textarea_calls.specs.declared.call.Call.{Call}
-use Rattle.textarea_calls.specs.declared.call.Call.TheVariants.{Input, InsertPasted, Render, ReplaceAll, ReplaceMatch, SetLines, SetSearchPattern, SetSearchText}
+use Rattle.textarea_calls.specs.declared.call.Call.TheVariants.{Input, InsertPasted, InsertStr, Render, ReplaceAll, ReplaceMatch, SetLines, SetSearchPattern, SetSearchText}
 use Rattle.textarea_data.specs.declared.measure.TextAreaMeasure.{TextAreaMeasure}
 use Rattle.textarea_editor.specs.declared.draft.Draft.{Draft}
 use Rattle.textarea_modal.specs.Runs.{AllMade, RunsOutAt}
@@ -25,6 +25,7 @@ IsUndrawn call = draws call ≡ false
 -- a call without the address of the text or input that it borrows
 abbrev pub plain_call : Call → Call
 plain_call (Input input) = Input (record { ref_ptr = (0, 0); now = input.now })
+plain_call (InsertStr text) = InsertStr (record { ref_ptr = (0, 0); now = text.now })
 plain_call (InsertPasted text) = InsertPasted (record { ref_ptr = (0, 0); now = text.now })
 plain_call (SetSearchPattern text) = SetSearchPattern (record { ref_ptr = (0, 0); now = text.now })
 plain_call (SetSearchText text ignore_case whole_word) = SetSearchText (record { ref_ptr = (0, 0); now = text.now }) ignore_case whole_word

@@ -42,6 +42,10 @@ wraps_of editor = editor.controls.wraps
 abbrev pub numbers_of : Editor → Bool
 numbers_of editor = editor.controls.numbers
 
+-- Enter in the text keeps the indent
+abbrev pub keeps_indent_of : Editor → Bool
+keeps_indent_of editor = editor.controls.keeps_indent
+
 -- the size of the screen
 abbrev pub screen_columns_of : Editor → ℕ
 screen_columns_of editor = editor.columns

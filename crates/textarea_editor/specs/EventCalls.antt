@@ -12,10 +12,13 @@ use Rattle.textarea_data.specs.declared.scroll.Scrolling.TheVariants as scrollin
 use Rattle.textarea_data.specs.declared.measure.TextAreaMeasure.{TextAreaMeasure}
 use Rattle.textarea_data.specs.declared.input.Key.{Key}
 use Rattle.textarea_data.specs.declared.input.Key.TheVariants.{Char, End, Esc, F, Home, MouseScrollDown, MouseScrollUp, Tab}
+use Rattle.textarea_document.specs.DocumentState.{DocumentState}
 use Rattle.textarea_editor.specs.Clicks.{click_below, click_by, clicks_of}
 use Rattle.textarea_editor.specs.Effects.{optional_bytes}
 use Rattle.textarea_editor.specs.Extents.{IsExtent}
+use Rattle.textarea_editor.specs.Indents.{keeps_indent, line_break}
 use Rattle.textarea_editor.specs.LineNumber.{IsLineNumber, row_of_line}
+use Rattle.textarea_editor.specs.Pages.{input_calls}
 use Rattle.textarea_editor.specs.Patterns.{borrowed, first_line, search_call, toggled}
 use Rattle.textarea_editor.specs.PromptKeys.{prompt_key}
 use Rattle.textarea_editor.specs.ReplaceKeys.{replace_key}
@@ -50,6 +53,7 @@ use Rattle.textarea_terminal.specs.declared.input.event.Mouse.{Mouse}
 use Rattle.textarea_text.specs.Fragment.{fragment_symbols}
 use Rattle.textarea_text.specs.Place.{Place}
 use Rattle.textarea_text.specs.Text.{lines}
+use Rattle.textarea_view.specs.Viewport.{ViewportState}
 use Rattle.textarea_wrap.specs.declared.wrap.WrapMode.{WrapMode}
 use Rattle.textarea_wrap.specs.declared.wrap.WrapMode.TheVariants as wrap
 use Rattle.tui_textarea.specs.Drawing.{widget_of}
@@ -143,10 +147,19 @@ command_calls wraps numbers selecting command.Cancel = call.CancelSelection ∷ 
 
 -- ---- other keys in the text
 
+-- the line is broken, and its indent kept
+abbrev pub break_calls : DocumentState → List Call
+break_calls document = call.InsertStr (borrowed (line_break document)) ∷ []
+
+-- a key of the text area, which breaks the line and keeps its indent or does anything else
+abbrev pub own_calls : Bool → DocumentState → ViewportState → Input → List Call
+own_calls true document viewport input = break_calls document
+own_calls false document viewport input = input_calls viewport input
+
 -- a key of the modal editor, if there is one, or of the text area
-abbrev pub typed_calls : Option Mode → Input → List Call
-typed_calls None input = passed_on input ∷ []
-typed_calls (Some mode) input = (step mode input).calls
+abbrev pub typed_calls : Option Mode → Bool → DocumentState → ViewportState → Input → List Call
+typed_calls None indents document viewport input = own_calls (keeps_indent indents input) document viewport input
+typed_calls (Some mode) indents document viewport input = (step mode input).calls
 
 -- the wheel scrolls down by three rows, but not if all rows of the text are shown
 abbrev pub wheel_calls : Bool → List Call
@@ -154,10 +167,10 @@ wheel_calls true = []
 wheel_calls false = call.Scroll (scrolling.Delta (pos 3) (pos 0)) ∷ []
 
 -- a key that is bound to no command; all rows of the text fit into the screen or not
-abbrev pub unbound_calls : Bool → Option Mode → Key → Input → List Call
-unbound_calls fits modal MouseScrollDown input = wheel_calls fits
-unbound_calls fits modal MouseScrollUp input = call.Scroll (scrolling.Delta (negsuc 2) (pos 0)) ∷ []
-unbound_calls fits modal other input = typed_calls modal input
+abbrev pub unbound_calls : Bool → Controls → DocumentState → ViewportState → Key → Input → List Call
+unbound_calls fits controls document viewport MouseScrollDown input = wheel_calls fits
+unbound_calls fits controls document viewport MouseScrollUp input = call.Scroll (scrolling.Delta (negsuc 2) (pos 0)) ∷ []
+unbound_calls fits controls document viewport other input = typed_calls controls.modal controls.keeps_indent document viewport input
 
 -- whether all rows of the text fit into this area; where it isn't laid out for this width, memory may
 -- run out for that, and then it counts as not fitting
@@ -168,9 +181,9 @@ IsFit area columns rows false = ((measure : TextAreaMeasure) × IsMeasured area 
 abbrev pub is_selecting : State → Bool
 is_selecting area = is_some area.document.anchor
 
-abbrev pub key_calls : Option KeyCommand → Bool → Option Mode → Bool → Bool → Bool → Input → List Call
-key_calls (Some found) fits modal wraps numbers selecting input = command_calls wraps numbers selecting found
-key_calls None fits modal wraps numbers selecting input = unbound_calls fits modal input.key input
+abbrev pub key_calls : Option KeyCommand → Bool → Controls → Bool → DocumentState → ViewportState → Input → List Call
+key_calls (Some found) fits controls selecting document viewport input = command_calls controls.wraps controls.numbers selecting found
+key_calls None fits controls selecting document viewport input = unbound_calls fits controls document viewport input.key input
 
 -- an input in the text
 pub record IsKeyInText (controls : Controls) (area : State) (columns rows : ℕ) (input : Input) (calls : List Call) : Type 0 where
@@ -178,7 +191,7 @@ pub record IsKeyInText (controls : Controls) (area : State) (columns rows : ℕ)
   pub found : IsBoundCommand input (is_some controls.modal) command
   pub fits : Bool
   pub is_fit : IsFit area columns rows fits
-  pub calls_are : calls ≡ key_calls command fits controls.modal controls.wraps controls.numbers (is_selecting area) input
+  pub calls_are : calls ≡ key_calls command fits controls (is_selecting area) area.document area.drawing.viewport input
 
 -- ---- the prompt
 

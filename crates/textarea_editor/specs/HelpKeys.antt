@@ -1,13 +1,18 @@
 -- What the keys do while the help is shown.
-use Rattle.std.specs.Prelude.{◌≡◌, ℕ, pos, negsuc, ◌==◌, if◌then◌else◌}
+use Rattle.std.specs.Prelude.{◌≡◌, ℕ, pos, negsuc, ◌-◌, ◌==◌, ◌&&◌, nat_lt, Bool, true, false, if◌then◌else◌, length}
+use Rattle.textarea_data.specs.declared.cursor.CursorMove.TheVariants.{Bottom}
 use Rattle.textarea_data.specs.declared.input.Input.{Input}
 use Rattle.textarea_data.specs.declared.input.Key.{Key}
 use Rattle.textarea_data.specs.declared.input.Key.TheVariants as key
+use Rattle.textarea_data.specs.declared.scroll.Scrolling.{Scrolling}
 use Rattle.textarea_data.specs.declared.scroll.Scrolling.TheVariants as scrolling
 use Rattle.textarea_editor.specs.PromptKeys.{quits}
 use Rattle.textarea_editor.specs.declared.focus.HelpKey.{HelpKey}
 use Rattle.textarea_editor.specs.declared.focus.HelpKey.TheVariants.{Leave, Other, Quit, Scroll}
-use Rattle.tui_textarea.specs.Moves.{IsScrolled}
+use Rattle.textarea_text.specs.Text.{lines}
+use Rattle.textarea_view.specs.Scrolled.{scrolled_by}
+use Rattle.textarea_view.specs.Viewport.{ViewportState}
+use Rattle.tui_textarea.specs.Moves.{IsMoved, IsScrolled}
 use Rattle.tui_textarea.specs.State.{State}
 
 -- the first function key closes the help that it opened
@@ -29,7 +34,20 @@ plain_help_key _ = Other
 abbrev pub help_key : Input → HelpKey
 help_key input = if quits input then Quit else plain_help_key input.key
 
+-- whether a scroll down goes on past the first row from which on the help's lines fill the window, of this number of lines
+abbrev pub passes_last_rows : ViewportState → ViewportState → ℕ → Bool
+passes_last_rows old new count = nat_lt old.row new.row && nat_lt (count - old.height) new.row
+
+abbrev pub scrolls_past_end : State → Scrolling → Bool
+scrolls_past_end help scrolling =
+    passes_last_rows help.drawing.viewport (scrolled_by help.drawing.viewport scrolling) (length (lines help.document.text))
+
+-- instead the last line comes into view, as the last row of the window
+abbrev pub IsHelpScrolled : Bool → Scrolling → State → State → Type 0
+IsHelpScrolled true scrolling help new = IsMoved help Bottom new
+IsHelpScrolled false scrolling help new = IsScrolled help scrolling new
+
 -- the help's text area after a key
 abbrev pub IsHelpAfter : HelpKey → State → State → Type 0
-IsHelpAfter (Scroll scrolling) help new = IsScrolled help scrolling new
+IsHelpAfter (Scroll scrolling) help new = IsHelpScrolled (scrolls_past_end help scrolling) scrolling help new
 IsHelpAfter _ help new = new ≡ help

@@ -10,8 +10,10 @@ pub mod EventEffects
 pub mod Extents
 pub mod FileText
 pub mod HelpKeys
+pub mod Indents
 pub mod JournalQuestions
 pub mod LineNumber
+pub mod Pages
 pub mod Patterns
 pub mod Positions
 pub mod PromptKeys

@@ -6,14 +6,16 @@ ghost use Rattle.textarea_editor.specs.Positions.{IsPosition, place_of_numbers};
 
 use crate::line_number::{line_number, row_of_line};
 
-/// What the arguments `[--modal] [--no-final-newline] [--restore] [--unnamed] [+LINE[,COLUMN]] [--]
-/// [FILE]` ask for.
+/// What the arguments `[--modal] [--no-final-newline] [--no-indent] [--restore] [--unnamed]
+/// [+LINE[,COLUMN]] [--] [FILE]` ask for.
 #[derive(Clone, Copy, Debug, PartialEq, Eq)]
 pub struct Arguments<'a> {
     /// Whether the keys are those of the modal editor.
     pub is_modal: bool,
     /// Whether the last line of a new file gets a line end when it is saved.
     pub closes_last: bool,
+    /// Whether Enter in the text keeps the indent of its line.
+    pub keeps_indent: bool,
     /// Whether a journal of the file is recovered without a question.
     pub restores: bool,
     /// Whether the file is only read, and its text has no name.
@@ -31,6 +33,8 @@ enum Word {
     Modal,
     // A new file's last line gets no line end.
     NoFinalNewline,
+    // Enter keeps no indent.
+    NoIndent,
     // A journal is recovered without a question.
     Restore,
     // The text has no name.
@@ -55,6 +59,7 @@ impl<'a> Arguments<'a> {
             Arguments {
                 is_modal: false,
                 closes_last: true,
+                keeps_indent: true,
                 restores: false,
                 is_unnamed: false,
                 position: None,
@@ -86,6 +91,15 @@ fn read_on<'a>(read: Arguments<'a>, words: &'a [String]) -> Option<Arguments<'a>
             read_on(
                 Arguments {
                     closes_last: false,
+                    ..read
+                },
+                rest,
+            )
+        }
+        Word::NoIndent => {
+            read_on(
+                Arguments {
+                    keeps_indent: false,
                     ..read
                 },
                 rest,
@@ -158,6 +172,9 @@ fn option_of(word: &str) -> Word
     }
     if word == "--no-final-newline" {
         return Word::NoFinalNewline;
+    }
+    if word == "--no-indent" {
+        return Word::NoIndent;
     }
     if word == "--restore" {
         return Word::Restore;

@@ -18,6 +18,8 @@ pub struct Controls {
     pub wraps: bool,
     /// Whether lines are numbered.
     pub numbers: bool,
+    /// Whether Enter in the text keeps the indent of its line, but with modal keys.
+    pub keeps_indent: bool,
     /// How the text of the prompt is found.
     pub search: SearchOptions,
     /// The number of matches that are still to be asked about, with the one at the cursor.

@@ -4,7 +4,7 @@ ghost use Rattle.std.specs.Prelude.{◌≡◌, ◌≢◌, ◌^◌, ◌≤◌, �
 ghost use Rattle.textarea_calls.specs.declared.call.Call.TheVariants.{GoTo};
 ghost use Rattle.textarea_editor.specs.ControlCharacters.{IsCountShown};
 ghost use Rattle.textarea_editor.specs.Draft.{IsSaved, Makes};
-ghost use Rattle.textarea_editor.specs.Editor.{controls_of, draft_of, end_of, message_of, new_ends, numbers_of, wraps_of};
+ghost use Rattle.textarea_editor.specs.Editor.{controls_of, draft_of, end_of, keeps_indent_of, message_of, new_ends, numbers_of, wraps_of};
 ghost use Rattle.textarea_editor.specs.Effects.{IsWritten};
 ghost use Rattle.textarea_editor.specs.SetUp.{IsOpened, opened};
 ghost use Rattle.textarea_editor.specs.Steps.{IsStep};
@@ -78,6 +78,7 @@ impl Editor {
         ensures saved { IfOk result (λ editor. IsSaved (draft_of editor)) }
         ensures area { IfOk result (λ editor. (draft_of editor).area ≡ opened [] true) }
         ensures ends { IfOk result (λ editor. end_of editor ≡ new_ends true) }
+        ensures indent { IfOk result (λ editor. keeps_indent_of editor ≡ true) }
     {
         let draft = opened(alloc, Vec::new(alloc), true)?;
         let (field, help) = match fields(alloc, is_modal) {
@@ -106,6 +107,7 @@ impl Editor {
                 origin: (0, 0),
                 wraps: true,
                 numbers: false,
+                keeps_indent: true,
                 search: SearchOptions::plain(),
                 matches: 0,
                 ends_when_saved: false,
@@ -179,6 +181,17 @@ impl Editor {
         ensures end { end_of self.new ≡ record (end_of self.old) { closes_last = closes_last } }
     {
         self.line_end.closes_last = closes_last;
+    }
+
+    /// Has Enter in the text keep the indent of its line, as at first, or not. With modal keys it never
+    /// does.
+    pub fn set_keeps_indent(&mut self, keeps_indent: bool)
+        ensures draft { draft_of self.new ≡ draft_of self.old }
+        ensures end { end_of self.new ≡ end_of self.old }
+        ensures controls { controls_of self.new
+            ≡ record (controls_of self.old) { keeps_indent = keeps_indent } }
+    {
+        self.controls.keeps_indent = keeps_indent;
     }
 
     /// Moves the cursor to the position (row, column) of the text, or the nearest one.

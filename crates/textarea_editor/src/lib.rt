@@ -17,6 +17,7 @@ mod extents;
 pub mod file_text;
 pub mod focus;
 pub mod help;
+pub mod indent;
 pub mod key_names;
 pub mod keys;
 pub mod laws;

@@ -7,8 +7,9 @@ ghost use Rattle.textarea_editor.specs.Editor.{MayQuit};
 ghost use Rattle.textarea_editor.specs.Effects.{Carries};
 ghost use Rattle.textarea_editor.specs.EventEffects.{IsEventEffect, IsInputEffect, IsNothing, help_effect};
 ghost use Rattle.textarea_editor.specs.EventCalls.{IsEvent, IsInput, IsPaste, is_selecting};
-ghost use Rattle.textarea_editor.specs.HelpKeys.{IsHelpAfter, help_key};
+ghost use Rattle.textarea_editor.specs.HelpKeys.{IsHelpAfter, IsHelpScrolled, help_key, scrolls_past_end, passes_last_rows};
 ghost use Rattle.textarea_editor.specs.Steps.{IsTimed};
+ghost use Rattle.textarea_view.specs.Scrolled.{scrolled_by};
 ghost use Rattle.tui_textarea.specs.Search.{match_count};
 
 use super::Editor;
@@ -17,8 +18,12 @@ use crate::focus::{Focus, HelpKey, help_key, typed_input};
 use crate::message::Message;
 use std::alloc::AllocError;
 use std::time::Duration;
+use textarea_data::cursor::CursorMove;
 use textarea_data::input::Input;
+use textarea_data::scroll::Scrolling;
 use textarea_terminal::input::Event;
+use textarea_view::viewport::Viewport;
+use tui_textarea::TextArea;
 
 impl Editor {
     // Sets the time, and takes an event.
@@ -148,7 +153,7 @@ impl Editor {
     {
         match help_key(input) {
             HelpKey::Scroll(scrolling) => {
-                self.help.scroll(scrolling);
+                scroll_help(&mut self.help, scrolling);
                 Effect::Nothing
             }
             HelpKey::Leave => {
@@ -159,4 +164,33 @@ impl Editor {
             HelpKey::Other => Effect::Nothing,
         }
     }
+}
+
+// Scrolls the help, but down only until its last lines fill the window.
+fn scroll_help(help: &mut TextArea<'static>, scrolling: Scrolling)
+    ensures { IsHelpScrolled (scrolls_past_end help.old scrolling) scrolling help.old help.new }
+{
+    if scrolls_past_end(help, scrolling) {
+        help.move_cursor(CursorMove::Bottom);
+    } else {
+        help.scroll(scrolling);
+    }
+}
+
+// Returns whether a scroll down goes on past the first row from which on the help's lines fill the
+// window.
+fn scrolls_past_end(help: &TextArea<'static>, scrolling: Scrolling) -> bool
+    ensures { result ≡ scrolls_past_end help.now scrolling }
+{
+    passes_last_rows(*help.viewport(), scrolling, help.lines().len())
+}
+
+fn passes_last_rows(viewport: Viewport, scrolling: Scrolling, count: usize) -> bool
+    ensures { result ≡ passes_last_rows viewport (scrolled_by viewport scrolling) count }
+{
+    let mut scrolled = viewport;
+    scrolled.scroll_by(scrolling);
+    let (top, _, _, height) = viewport.rect();
+    let (new_top, _) = scrolled.scroll_top();
+    top < new_top && count.saturating_sub(height) < new_top
 }

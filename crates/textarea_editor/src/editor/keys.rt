@@ -5,12 +5,14 @@ ghost use Rattle.textarea_editor.specs.Draft.{FailsIn, FailsInSome, Makes, Makes
 ghost use Rattle.textarea_editor.specs.Editor.{MayQuit};
 ghost use Rattle.textarea_editor.specs.Effects.{Carries};
 ghost use Rattle.textarea_editor.specs.EventEffects.{IsKeyEffect, IsModalEffect, IsNothing, IsTypedEffect, IsUnboundEffect};
-ghost use Rattle.textarea_editor.specs.EventCalls.{IsFit, IsKeyInText, is_selecting, paste_calls, typed_calls, unbound_calls};
+ghost use Rattle.textarea_editor.specs.EventCalls.{IsFit, IsKeyInText, is_selecting, own_calls, paste_calls, typed_calls, unbound_calls};
+ghost use Rattle.textarea_editor.specs.Indents.{keeps_indent};
 ghost use Rattle.textarea_modal.specs.Table.{step};
 
 use super::{Editor, WHEEL_DOWN, WHEEL_UP};
 use crate::draft::copies;
 use crate::effect::Effect;
+use crate::indent::keeps_indent;
 use crate::keys::command_of;
 use std::alloc::AllocError;
 use textarea_calls::Call;
@@ -56,9 +58,11 @@ impl Editor {
     // Takes a key that is none of the table. The text fits into the screen or not.
     fn take_unbound(&mut self, input: &Input, fits: bool) -> Result<Effect, AllocError>
         ensures ok { OnOk result (Makes self.old.draft
-            (unbound_calls fits self.old.controls.modal input.now.key input.now) self.new.draft) }
+            (unbound_calls fits self.old.controls self.old.draft.area.document
+            self.old.draft.area.drawing.viewport input.now.key input.now) self.new.draft) }
         ensures err { OnErr result (FailsIn self.old.draft
-            (unbound_calls fits self.old.controls.modal input.now.key input.now) self.new.draft) }
+            (unbound_calls fits self.old.controls self.old.draft.area.document
+            self.old.draft.area.drawing.viewport input.now.key input.now) self.new.draft) }
         ensures carries { IfOk result
             (Carries (MayQuit self.old self.new.draft) self.new.draft.area self.new.line_end) }
         ensures effect { IfOk result (IsUnboundEffect input.now.key self.old.controls.modal
@@ -78,10 +82,12 @@ impl Editor {
 
     // Takes a key of the modal editor, if there is one, or of the text area.
     fn take_typed(&mut self, input: &Input) -> Result<Effect, AllocError>
-        ensures ok { OnOk result
-            (Makes self.old.draft (typed_calls self.old.controls.modal input.now) self.new.draft) }
-        ensures err { OnErr result
-            (FailsIn self.old.draft (typed_calls self.old.controls.modal input.now) self.new.draft) }
+        ensures ok { OnOk result (Makes self.old.draft (typed_calls self.old.controls.modal
+            self.old.controls.keeps_indent self.old.draft.area.document
+            self.old.draft.area.drawing.viewport input.now) self.new.draft) }
+        ensures err { OnErr result (FailsIn self.old.draft (typed_calls self.old.controls.modal
+            self.old.controls.keeps_indent self.old.draft.area.document
+            self.old.draft.area.drawing.viewport input.now) self.new.draft) }
         ensures carries { IfOk result
             (Carries (MayQuit self.old self.new.draft) self.new.draft.area self.new.line_end) }
         ensures effect { IfOk result (IsTypedEffect self.old.controls.modal
@@ -93,11 +99,32 @@ impl Editor {
     {
         match self.controls.modal {
             Some(modal) => self.take_modal(modal, input),
-            None => {
-                self.draft.input(input)?;
-                Ok(Effect::Nothing)
-            }
+            None => self.take_own(input),
         }
+    }
+
+    // Takes a key of the text area. One that breaks the line keeps its indent, if that is set.
+    fn take_own(&mut self, input: &Input) -> Result<Effect, AllocError>
+        ensures ok { OnOk result (Makes self.old.draft
+            (own_calls (keeps_indent self.old.controls.keeps_indent input.now)
+            self.old.draft.area.document self.old.draft.area.drawing.viewport input.now)
+            self.new.draft) }
+        ensures err { OnErr result (FailsIn self.old.draft
+            (own_calls (keeps_indent self.old.controls.keeps_indent input.now)
+            self.old.draft.area.document self.old.draft.area.drawing.viewport input.now)
+            self.new.draft) }
+        ensures carries { IfOk result
+            (Carries (MayQuit self.old self.new.draft) self.new.draft.area self.new.line_end) }
+        ensures effect { IfOk result IsNothing }
+        ensures end { self.new.line_end ≡ self.old.line_end }
+        ensures controls { self.new.controls ≡ self.old.controls }
+    {
+        if keeps_indent(self.controls.keeps_indent, input) {
+            self.draft.break_line()?;
+            return Ok(Effect::Nothing);
+        }
+        self.draft.take_input(input)?;
+        Ok(Effect::Nothing)
     }
 
     // Takes a key of the modal editor. What it copies is given to the program.

@@ -198,11 +198,8 @@ impl Editor {
     {
         let text = self.field.lines()[0].as_str();
         let found = self.draft.look_for(self.controls.origin, options, text)?;
-        if options.is_pattern && !self.draft.has_pattern(options, text) {
-            self.message = Message::BrokenPattern;
-        } else if !found && !text.is_empty() {
-            self.message = Message::NoMatch;
-        }
+        let is_found = found || text.is_empty();
+        self.show_search(options, is_found);
         Ok(Effect::Nothing)
     }
 
@@ -223,12 +220,22 @@ impl Editor {
         let text = self.field.lines()[0].as_str();
         let options = self.controls.search;
         let found = self.draft.seek(is_forward, options, text)?;
+        self.show_search(options, found);
+        Ok(Effect::Nothing)
+    }
+
+    // Shows a message if the prompt's text is a broken pattern, or was not found.
+    fn show_search(&mut self, options: SearchOptions, is_found: bool)
+        ensures draft { self.new.draft ≡ self.old.draft }
+        ensures end { self.new.line_end ≡ self.old.line_end }
+        ensures controls { self.new.controls ≡ self.old.controls }
+    {
+        let text = self.field.lines()[0].as_str();
         if options.is_pattern && !self.draft.has_pattern(options, text) {
             self.message = Message::BrokenPattern;
-        } else if !found {
+        } else if !is_found {
             self.message = Message::NoMatch;
         }
-        Ok(Effect::Nothing)
     }
 
     // Takes the prompt's text.
