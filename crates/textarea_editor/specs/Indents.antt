@@ -48,6 +48,7 @@ abbrev pub is_newline : Action → Bool
 is_newline action.InsertNewline = true
 is_newline other = false
 
--- whether an input breaks the line and keeps its indent, where that is wanted or not
+-- whether an input breaks the line and keeps its indent, where that is wanted or not; with Shift none
+-- does
 abbrev pub keeps_indent : Bool → Input → Bool
-keeps_indent wanted input = wanted && is_newline (asked_by input)
+keeps_indent wanted input = wanted && (not input.shift && is_newline (asked_by input))

@@ -99,7 +99,8 @@ pub enum HelpKey {
     Other,
 }
 
-/// Returns an input as it is taken: a line feed, which terminals send as Ctrl J, is Enter.
+/// Returns an input as it is taken: a line feed, which terminals send as Ctrl J, is Enter with Shift,
+/// which keeps no indent.
 pub fn typed_input(input: &Input) -> Input
     ensures { result ≡ typed_input input.now }
 {
@@ -108,7 +109,7 @@ pub fn typed_input(input: &Input) -> Input
             key: Key::Enter,
             ctrl: false,
             alt: false,
-            shift: false,
+            shift: true,
         };
     }
     copied(input)

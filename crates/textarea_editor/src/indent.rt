@@ -10,11 +10,11 @@ use textarea_calls::keys::action_of;
 use textarea_data::input::Input;
 
 /// Returns whether an input of the text area breaks the line and keeps its indent, where that is
-/// wanted or not.
+/// wanted or not. With Shift none does.
 pub fn keeps_indent(is_wanted: bool, input: &Input) -> bool
     ensures { result ≡ keeps_indent is_wanted input.now }
 {
-    is_wanted && is_newline(action_of(input))
+    is_wanted && !input.shift && is_newline(action_of(input))
 }
 
 fn is_newline(action: Action) -> bool
