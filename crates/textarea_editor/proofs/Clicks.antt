@@ -25,7 +25,8 @@ hit_of area read column row found wanted same is hit =
     subst (λ (o : Option Place). IsHitTest (widget_of area) column row o) is (subst (λ (s : State). IsHitTest (widget_of s) column row found) same hit)
 
 -- the cell shows nothing
-pub clicks_none : (selects below : Bool) (old : Draft) (read : State) (column row : ℕ) (found : Option Place) → read ≡ old.area → found ≡ None → IsHitTest (widget_of read) column row found → MakesSome (Clicks selects below old column row) old old
+pub clicks_none : (selects below : Bool) (old : Draft) (read : State) (column row : ℕ) (found : Option Place) → read ≡ old.area → found ≡ None
+    → IsHitTest (widget_of read) column row found → MakesSome (Clicks selects below old column row) old old
 clicks_none selects below old read column row found same none hit =
     let asked : Clicks selects below old column row [] = record { found = None; found_is = hit_of old.area read column row found None same none hit; calls_are = refl } in
     record { calls = []; asked = asked; makes = makes_none old }

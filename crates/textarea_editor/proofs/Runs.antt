@@ -92,7 +92,8 @@ run_turns line column count first class kind was here differs early = record {
     before some = grind (arith, some)
 
 -- the run ends before the next character or at the line's end
-pub run_found : (line : List ℕ) (column count first : ℕ) (class : CharKind) → IsRunSoFar line column count first class → column < count → count ≤ length line → (count ≢ length line → class_at line count ≢ class) → IsClassRun line column first count
+pub run_found : (line : List ℕ) (column count first : ℕ) (class : CharKind) → IsRunSoFar line column count first class → column < count → count ≤ length line
+    → (count ≢ length line → class_at line count ≢ class) → IsClassRun line column first count
 run_found line column count first class was past within ends =
     let here : class_at line column ≡ class = was.same column was.begins past in
     record {

@@ -84,7 +84,8 @@ event_at editor draft area time now (event.Paste text) calls is = paste_at edito
 event_at editor draft area time now (event.Mouse mouse) calls is = is
 event_at editor draft area time now other calls is = is
 
-later_at : (editor : Editor) (draft : Draft) (time : ℕ) (now : Duration) (this : Event) (calls : List Call) → draft.area ≡ at_time editor.draft.area time → IsEvent (with_draft editor draft) draft.area now this calls → IsEvent editor editor.draft.area now this calls
+later_at : (editor : Editor) (draft : Draft) (time : ℕ) (now : Duration) (this : Event) (calls : List Call) → draft.area ≡ at_time editor.draft.area time
+    → IsEvent (with_draft editor draft) draft.area now this calls → IsEvent editor editor.draft.area now this calls
 later_at editor draft time now this calls set is =
     event_at editor draft editor.draft.area time now this calls (subst (λ (s : State). IsEvent (with_draft editor draft) s now this calls) set is)
 

@@ -10,7 +10,8 @@ returns-in_default-clause-ok c =
 pub returns-in_err-select-clause-err : goal.returns-in_err-select-clause-err
 returns-in_err-select-clause-err c =
     on_err c.from_residual-in_err-select.result
-    (clicks_fail_first c.args.selects c.args.is_below c.args.self.now c.select.new.self c.area.result.now c.args.cell.x c.args.cell.y c.in_ok-place.field-0 c.in-Some.place c.area.ensures c.in-Some.is c.in_ok-place.ensures.hit c.in_err-select.ensures.err)
+    (clicks_fail_first c.args.selects c.args.is_below c.args.self.now c.select.new.self c.area.result.now c.args.cell.x c.args.cell.y c.in_ok-place.field-0 c.in-Some.place
+    c.area.ensures c.in-Some.is c.in_ok-place.ensures.hit c.in_err-select.ensures.err)
 
 pub returns-clause-ok : goal.returns-clause-ok
 returns-clause-ok c =
