@@ -13,7 +13,7 @@ loop-c-init c =
     let rest = ap chars_rest c.into_iter-c-iterator.ensures.into_iter_gives ∙ c.chars-c-items.ensures.rest in
     record {
       text = rw rest c.utf8.line;
-      left = indent_begun (string_bytes c.in_ok-text.field-0) _ c.args.line.now c.args.column c.in_ok-text.ensures.ok rest;
+      left = indent_begun (string_bytes c.in_ok-text.text) _ c.args.line.now c.args.column c.in_ok-text.ensures.ok rest;
     }
 
 pub returns-then-ends_indent : goal.returns-then-ends_indent
