@@ -1,21 +1,22 @@
 -- Copies of edits, and of a history's list of them.
-use Rattle.std.proofs.Common.{◌≡◌, ◌≤◌, ◌-◌, ℕ, Bool, zero, suc, List, [], ◌∷◌, length, map, Option, Some, None, sym, ap, refl, ◌∙◌, arith, subst, slice_get}
+use Rattle.std.proofs.Common.{◌≡◌, ◌≤◌, ◌-◌, ℕ, zero, suc, List, [], ◌∷◌, length, map, Option, Some, None, sym, ap, refl, ◌∙◌, arith, subst, slice_get}
 use Rattle.std.proofs.lemmas.List.Elements.{AllZip-get_or, length_all_zip}
 use Rattle.textarea_history.specs.Prelude.{AllZip, IfSome, end, Splice, Stored, IsCopyOfEdit, IsWellFormed, edge_of, grouped_in, splice_in, IsRun, IsRunEdge, IsStore}
 
+-- what a copy of an edit shares with it, as its splice or its mark
+parts_copied : {A : Type 0} (part : Stored → A) → ((edit copy : Stored) → IsCopyOfEdit edit copy → part copy ≡ part edit) → (items copies : List Stored) → AllZip IsCopyOfEdit items copies →
+    map part copies ≡ map part items
+parts_copied part same [] [] h = refl
+parts_copied part same [] (copy ∷ copies) h = absurd h
+parts_copied part same (edit ∷ items) [] h = absurd h
+parts_copied part same (edit ∷ items) (copy ∷ copies) h =
+    ap (λ first. first ∷ map part copies) (same edit copy h.0) ∙ ap (λ rest. part edit ∷ rest) (parts_copied part same items copies h.1)
+
 pub splices_copied : (items copies : List Stored) → AllZip IsCopyOfEdit items copies → map splice_in copies ≡ map splice_in items
-splices_copied [] [] h = refl
-splices_copied [] (copy ∷ copies) h = absurd h
-splices_copied (edit ∷ items) [] h = absurd h
-splices_copied (edit ∷ items) (copy ∷ copies) h =
-    ap (λ (s : Splice). s ∷ map splice_in copies) h.0.splice ∙ ap (λ (t : List Splice). edit.splice ∷ t) (splices_copied items copies h.1)
+splices_copied = parts_copied splice_in (λ edit copy h. h.splice)
 
 pub marks_copied : (items copies : List Stored) → AllZip IsCopyOfEdit items copies → map grouped_in copies ≡ map grouped_in items
-marks_copied [] [] h = refl
-marks_copied [] (copy ∷ copies) h = absurd h
-marks_copied (edit ∷ items) [] h = absurd h
-marks_copied (edit ∷ items) (copy ∷ copies) h =
-    ap (λ (b : Bool). b ∷ map grouped_in copies) h.0.grouped ∙ ap (λ (t : List Bool). edit.grouped ∷ t) (marks_copied items copies h.1)
+marks_copied = parts_copied grouped_in (λ edit copy h. h.grouped)
 
 formed_copied : (edit copy : Stored) → IsCopyOfEdit edit copy → IsWellFormed edit → IsWellFormed copy
 formed_copied edit copy same h = record {

@@ -27,21 +27,13 @@ newest_at items index maximum run_open last group edit some within e =
     ap (λ n. slice_get (take index splices) (n - 1)) size
     ∙ slice_get_read (take index splices) index (index - 1) edit.splice (sym size) before (found ∙ sym (get_or-take index splices (index - 1) edit.splice before))
 
--- an edit is stored again with the same splice
-pub splices_same : (items : List Stored) (index : ℕ) (edit new : Stored) → index < length items → edit ≡ get_or items index edit → new.splice ≡ edit.splice →
-    map splice_in (set items index new) ≡ map splice_in items
-splices_same items index edit new within e same =
-    map-set splice_in items index new
-    ∙ ap (λ (s : Splice). set (map splice_in items) index s) (same ∙ sym (get_or-map splice_in items index edit edit.splice within ∙ ap splice_in (sym e)))
-    ∙ set-get_or (map splice_in items) index edit.splice
-
--- and with the same mark
-pub marks_same : (items : List Stored) (index : ℕ) (edit new : Stored) → index < length items → edit ≡ get_or items index edit → new.grouped ≡ edit.grouped →
-    map grouped_in (set items index new) ≡ map grouped_in items
-marks_same items index edit new within e same =
-    map-set grouped_in items index new
-    ∙ ap (λ (b : Bool). set (map grouped_in items) index b) (same ∙ sym (get_or-map grouped_in items index edit edit.grouped within ∙ ap grouped_in (sym e)))
-    ∙ set-get_or (map grouped_in items) index edit.grouped
+-- an edit is stored again with the same part, as its splice or its mark
+pub part_same : {A : Type 0} (part : Stored → A) (items : List Stored) (index : ℕ) (edit new : Stored) → index < length items → edit ≡ get_or items index edit → part new ≡ part edit →
+    map part (set items index new) ≡ map part items
+part_same part items index edit new within e same =
+    map-set part items index new
+    ∙ ap (set (map part items) index) (same ∙ sym (get_or-map part items index edit (part edit) within ∙ ap part (sym e)))
+    ∙ set-get_or (map part items) index (part edit)
 
 -- ---- an edit that joins
 
@@ -157,7 +149,7 @@ log_joined items index maximum run last now group newest_edit new edit log store
     ∙ ap (λ (s : Splice). take (length (take index splices) - 1) (take index splices) ++ s ∷ []) (sym found) in
     let undone : drop index (map splice_in (set items (index - 1) new)) ≡ [] =
     drop_all index (map splice_in (set items (index - 1) new)) (omega (arith, length-map (set items (index - 1) new) splice_in, length-set items (index - 1) new, j.whole)) in
-    let marks : map grouped_in (set items (index - 1) new) ≡ map grouped_in items = marks_same items (index - 1) newest_edit new (omega (arith, j.some, store.within)) read same in
+    let marks : map grouped_in (set items (index - 1) new) ≡ map grouped_in items = part_same grouped_in items (index - 1) newest_edit new (omega (arith, j.some, store.within)) read same in
     joined_is old edit now (log_in (set items (index - 1) new) index maximum true now (with_edit group)) done undone marks
     ∙ ap (λ (l : Log). joined_log l edit now) view
 

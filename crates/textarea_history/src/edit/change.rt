@@ -135,10 +135,10 @@ impl<'a> Change<'a> {
                 self.insert_inside(lines, offset, c.encode_utf8(&mut buffer))
             }
             Content::Text(text) => self.insert_inside(lines, offset, text.as_str()),
-            Content::Typed(text) if edit.inserts => {
-                self.insert_inside(lines, offset, text.as_str())
-            }
             Content::Typed(text) => {
+                if edit.inserts {
+                    return self.insert_inside(lines, offset, text.as_str());
+                }
                 let restored = reverse_text(*lines.allocator(), text.as_str())?;
                 self.insert_inside(lines, offset, restored.as_str())
             }

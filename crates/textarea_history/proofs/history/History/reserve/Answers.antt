@@ -1,7 +1,7 @@
 use Rattle.std.proofs.Common.{◌∙◌, ◌-◌, ◌<◌, sym, ap, arith, length}
 use Rattle.std.proofs.lemmas.Result.{on_ok_weaker}
-use Rattle.textarea_history.specs.Prelude.{StoredLog}
-use Rattle.textarea_history.proofs.Stores.{formed_at, marks_same, newest_grows, room_ready, run_some, splices_same, store_ready, store_same}
+use Rattle.textarea_history.specs.Prelude.{StoredLog, grouped_in, splice_in}
+use Rattle.textarea_history.proofs.Stores.{formed_at, newest_grows, part_same, room_ready, run_some, store_ready, store_same}
 use Rattle.textarea_history.proofs.history.History.reserve.Goals as goal
 
 pub invariant_of-self : goal.invariant_of-self
@@ -43,8 +43,8 @@ returns-then-is_some-clause-same c =
     let edit = c.reserve-then-is_some in
     let here : inside.index - 1 < length now = omega (arith, run.0, run.1, ap length c.reserve.ensures.items) in
     rw (
-      splices_same now (inside.index - 1) c.index_mut.result.now edit.new.self here c.index_mut.ensures.value edit.ensures.splice,
-      marks_same now (inside.index - 1) c.index_mut.result.now edit.new.self here c.index_mut.ensures.value edit.ensures.grouped,
+      part_same splice_in now (inside.index - 1) c.index_mut.result.now edit.new.self here c.index_mut.ensures.value edit.ensures.splice,
+      part_same grouped_in now (inside.index - 1) c.index_mut.result.now edit.new.self here c.index_mut.ensures.value edit.ensures.grouped,
       c.reserve.ensures.items,
     )
     (ap (λ (k : StoredLog). k.log) c.self.view_is)

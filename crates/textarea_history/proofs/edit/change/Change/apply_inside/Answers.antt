@@ -73,6 +73,6 @@ insert_inside-requires-clause-symbols c =
     ∙ ap (symbols_in inside.inserts) (sym c.in-Character.is)
     ∙ symbols_of_change inside.content inside.inserts c.self.inside.inserts inside.start inside.end c.self.inside.edit.now c.args.self.now c.edit.view_is c.self.view_is
 
-pub returns-in_err-restored-in-Typed-2-clause-start : goal.returns-in_err-restored-in-Typed-2-clause-start
-returns-in_err-restored-in-Typed-2-clause-start c =
+pub returns-in_err-restored-in-Typed-clause-start : goal.returns-in_err-restored-in-Typed-clause-start
+returns-in_err-restored-in-Typed-clause-start c =
     rows_place c.args.lines.now.items c.args.self.now.place (omega (arith, c.requires.nonempty, c.args.lines.now.ok.0)) c.requires.fits.is_place
