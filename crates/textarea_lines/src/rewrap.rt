@@ -1,5 +1,5 @@
 //! Wrapping of lines for a change.
-ghost use Rattle.std.specs.Prelude.{◌≡◌, ◌≢◌, ◌+◌, ◌-◌, ◌^◌, ◌<◌, ◌≤◌, ◌++◌, [], get_or, length, vec_capacity, vec_len, IfOk, None, OnOk};
+ghost use Rattle.std.specs.Prelude.{◌≡◌, ◌≢◌, ◌+◌, ◌-◌, ◌^◌, ◌<◌, ◌≤◌, ◌++◌, [], ℕ, List, get_or, length, vec_capacity, vec_len, IfOk, None, OnOk};
 ghost use Rattle.textarea_lines.specs.Prelude.{lines_of, AreRowsOf, ticks_after, ticks_of, all_rows, CanStayWhole, HasWholeLine, count_after, lines_after, AreReadyRows, CanReplace};
 
 use crate::settings::{LayoutSettings, is_same, wrapping_for};
@@ -48,17 +48,32 @@ fn rows_after(
         ≡ ticks_after count.old (count_after (length lines.now) replacement.now)) }
     ensures never_less { count.old ≤ count.new }
 {
-    let mut rows = RowBlocks::new(alloc);
-    push_lines(alloc, &mut rows, &lines[..replacement.row], wrapping, count)?;
-    push_lines(
-        alloc,
-        &mut rows,
-        replacement.lines.as_slice(),
-        wrapping,
-        count,
-    )?;
+    let none = RowBlocks::new(alloc);
+    let above = with_rows_of(alloc, none, &lines[..replacement.row], wrapping, count)?;
+    let new = replacement.lines.as_slice();
+    let through = with_rows_of(alloc, above, new, wrapping, count)?;
     let below = &lines[replacement.row + replacement.count..];
-    push_lines(alloc, &mut rows, below, wrapping, count)?;
+    let all = with_rows_of(alloc, through, below, wrapping, count)?;
+    Ok(all)
+}
+
+// Returns the rows, and after them those of these lines.
+fn with_rows_of(
+    alloc: Global,
+    mut rows: RowBlocks,
+    lines: &[String],
+    wrapping: Wrapping,
+    count: &mut WrapCount,
+) -> Result<RowBlocks, AllocError>
+    ensures counted { OnOk result (count.new ≡ count.old + length lines.now) }
+    ensures never_less { count.old ≤ count.new }
+    ensures rows { (before : List (List ℕ)) → AreRowsOf wrapping before (all_rows rows.blocks) →
+        IfOk result
+        (λ whole. AreRowsOf wrapping (before ++ lines_of lines.now) (all_rows whole.blocks)) }
+    ensures ticks { IfOk result (λ whole. ticks_of (all_rows whole.blocks)
+        ≡ ticks_of (all_rows rows.blocks) ++ ticks_after count.old (length lines.now)) }
+{
+    push_lines(alloc, &mut rows, lines, wrapping, count)?;
     Ok(rows)
 }
 

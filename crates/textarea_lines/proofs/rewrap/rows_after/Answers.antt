@@ -14,16 +14,16 @@ returns-clause-rows c =
     let at = new.row + new.count in
     let above = take new.row items in
     let below = take (length items - at) (drop at items) in
-    let none = subst (λ (t : List (List RowsView)). AreRowsOf c.args.wrapping [] (all_rows t)) (sym c.new-rows.ensures) tt in
-    let first = c.in_ok-push_lines.ensures.rows [] none in
-    let second = c.in_ok-push_lines-2.ensures.rows (lines_of above) first in
-    rows_together c.args.wrapping items new.lines.items above c.as_slice.result.now below new.row new.count (all_rows c.push_lines-3.new.blocks.blocks) refl c.as_slice.ensures.value (take_rest items at)
-    (c.in_ok-push_lines-3.ensures.rows (lines_of above ++ lines_of c.as_slice.result.now) second)
+    let none = subst (λ (t : List (List RowsView)). AreRowsOf c.args.wrapping [] (all_rows t)) (sym c.new-none.ensures) tt in
+    let first = c.in_ok-above.ensures.rows [] none in
+    let second = c.in_ok-through.ensures.rows (lines_of above) first in
+    rows_together c.args.wrapping items new.lines.items above c.as_slice-new.result.now below new.row new.count (all_rows c.in_ok-all.all.blocks) refl c.as_slice-new.ensures.value (take_rest items at)
+    (c.in_ok-all.ensures.rows (lines_of above ++ lines_of c.as_slice-new.result.now) second)
 
 pub returns-clause-ticks : goal.returns-clause-ticks
 returns-clause-ticks c =
     let at = c.args.replacement.now.row + c.args.replacement.now.count in
     let items = c.args.lines.now in
-    ticks_together (ticks_of (all_rows c.new-rows.result.blocks)) _ _ _ c.args.count.now _ _ _ _ _ _ (ap (λ t. ticks_of (all_rows t)) c.new-rows.ensures)
-    c.in_ok-push_lines.ensures.ticks c.in_ok-push_lines.ensures.counted c.in_ok-push_lines-2.ensures.ticks c.in_ok-push_lines-2.ensures.counted c.in_ok-push_lines-3.ensures.ticks
-    (omega (arith, c.requires, c.as_slice.ensures.len, length-take-le c.args.replacement.now.row items (omega arith), ap length (take_rest items at), length-drop at items))
+    ticks_together (ticks_of (all_rows c.new-none.result.blocks)) _ _ _ c.args.count.now _ _ _ _ _ _ (ap (λ t. ticks_of (all_rows t)) c.new-none.ensures)
+    c.in_ok-above.ensures.ticks c.in_ok-above.ensures.counted c.in_ok-through.ensures.ticks c.in_ok-through.ensures.counted c.in_ok-all.ensures.ticks
+    (omega (arith, c.requires, c.as_slice-new.ensures.len, length-take-le c.args.replacement.now.row items (omega arith), ap length (take_rest items at), length-drop at items))
