@@ -43,15 +43,15 @@ ends_in_no_linker conjunct.Consonant vs is = refl
 ends_in_no_linker conjunct.Linker vs is = absurd (false≢true is)
 ends_in_no_linker conjunct.Extend vs is = absurd (false≢true is)
 
-single-extend : (v : GraphemeClusterBreak) → is_single v ≡ true → is_extend v ≡ false
+pub single-extend : (v : GraphemeClusterBreak) → is_single v ≡ true → is_extend v ≡ false
 single-extend Extend is = absurd (false≢true is)
 single-extend _ is = refl
 
-single-regional : (v : GraphemeClusterBreak) → is_single v ≡ true → is_regional v ≡ false
+pub single-regional : (v : GraphemeClusterBreak) → is_single v ≡ true → is_regional v ≡ false
 single-regional RegionalIndicator is = absurd (false≢true is)
 single-regional _ is = refl
 
-single-zwj : (v : GraphemeClusterBreak) → is_single v ≡ true → is_zwj v ≡ false
+pub single-zwj : (v : GraphemeClusterBreak) → is_single v ≡ true → is_zwj v ≡ false
 single-zwj Zwj is = absurd (false≢true is)
 single-zwj _ is = refl
 
@@ -69,6 +69,19 @@ no_pair Other _ is is' = absurd (false≢true is')
 no_pair Lv _ is is' = absurd (false≢true is')
 no_pair Lvt _ is is' = absurd (false≢true is')
 no_pair _ _ is is' = absurd (false≢true is)
+
+-- half a flag isn't joined with such a character before it or after it
+pub no_pair-regional : (v : GraphemeClusterBreak) → is_single v ≡ true → break_by_pair true v RegionalIndicator ≡ None
+no_pair-regional Other is = refl
+no_pair-regional Lv is = refl
+no_pair-regional Lvt is = refl
+no_pair-regional _ is = absurd (false≢true is)
+
+pub regional-no_pair : (v : GraphemeClusterBreak) → is_single v ≡ true → break_by_pair true RegionalIndicator v ≡ None
+regional-no_pair Other is = refl
+regional-no_pair Lv is = refl
+regional-no_pair Lvt is = refl
+regional-no_pair _ is = absurd (false≢true is)
 
 -- two plain characters are in two clusters
 pub breaks_between : (c d : ℕ) → IsPlain c → IsPlain d → (before after : List ℕ) → is_grapheme_break true (c ∷ before) (d ∷ after) ≡ true

@@ -2,7 +2,7 @@
 -- after it is split as if it were a text of its own.
 use Rattle.std.proofs.Common.{◌≡◌, ◌⊎◌, ℕ, ◌+◌, ◌-◌, ◌<◌, ◌≤◌, Bool, true, false, cond, not, ◌&&◌, ◌||◌, ◌==◌, nat_lt, List, [], ◌∷◌, ◌++◌, length, map, sum_by, take, drop, Option, None, Some, IfSome}
 use Rattle.std.proofs.Common.{refl, sym, ap, ap₂, subst, ◌∙◌, arith, inl, inr}
-use Rattle.std.proofs.lemmas.Bool.{cond-true, cond-false, eqb-true, false≢true}
+use Rattle.std.proofs.lemmas.Bool.{and_parts, cond-true, cond-false, eqb-true, false≢true}
 use Rattle.std.proofs.lemmas.Bool.Decides.{nat_tests}
 use Rattle.std.proofs.lemmas.List.{append-nil, append_assoc, length-append}
 use Rattle.std.proofs.lemmas.List.Sums.{sum_by-cons}
@@ -11,13 +11,13 @@ use Rattle.std.proofs.Math.Seq.{drop-append_seam, take-append_seam}
 use Rattle.std.specs.Char.{is_control}
 use Rattle.std.specs.Prelude.{encode_utf8, encode_utf8_all}
 use Rattle.std.specs.Str.{all_scalars, chars, IsUtf8}
-use Rattle.textarea_paint.proofs.PlainLemmas.{BeginsAnew, cut-anew}
-use Rattle.textarea_paint.proofs.WidthLemmas.{columns_of-encoded, other-visible, regional-visible}
+use Rattle.textarea_paint.proofs.PlainLemmas.{BeginsAnew, IsPlain, breaks_between, cut-anew, is_single, no_pair-regional, regional-no_pair, single-extend, single-regional, single-zwj}
+use Rattle.textarea_paint.proofs.WidthLemmas.{columns_of-encoded, regional-visible, single-visible}
 use Rattle.textarea_paint.specs.Columns.{char_columns, columns_of}
 use Rattle.textarea_paint.specs.Simple.{begins_apart, early_ranges, is_flag_half, is_simple, late_ranges}
 use Rattle.ucd_breaks.specs.GraphemeClusterBreak.{grapheme_cluster_break, grapheme_cluster_break_number}
 use Rattle.ucd_breaks.specs.declared.GraphemeClusterBreak.{GraphemeClusterBreak}
-use Rattle.ucd_breaks.specs.declared.GraphemeClusterBreak.TheVariants.{Other, RegionalIndicator}
+use Rattle.ucd_breaks.specs.declared.GraphemeClusterBreak.TheVariants.{RegionalIndicator}
 use Rattle.ucd_breaks.proofs.GraphemeClusterBreakLemmas.{grapheme_cluster_break_number_injective, grapheme_cluster_break_stepped}
 use Rattle.ucd_derived.specs.IndicConjunctBreak.{indic_conjunct_break, indic_conjunct_break_number}
 use Rattle.ucd_derived.specs.declared.IndicConjunctBreak.{IndicConjunctBreak}
@@ -36,7 +36,7 @@ use Rattle.unicode_width.proofs.Computing.{unicode_width}
 -- ---- the tables
 
 has_no_joiner : GraphemeClusterBreak → IndicConjunctBreak → Bool
-has_no_joiner g i = (grapheme_cluster_break_number g == 12) && (indic_conjunct_break_number i == 3)
+has_no_joiner g i = is_single g && (indic_conjunct_break_number i == 3)
 
 either_way : Bool → Bool → Bool
 either_way simple fits = not simple || fits
@@ -60,17 +60,19 @@ late_fits : (c : ℕ) → either_way (in_ranges late_ranges c) (has_no_joiner (g
 unfolding tables grapheme_cluster_break_stepped indic_conjunct_break_stepped late_stepped joiner_stepped has_no_joiner either_way
 late_fits c = Stepped-everywhere _ (zip_stepped either_way (in_ranges late_ranges) _ late_stepped joiner_stepped) refl c
 
--- no rule that joins characters applies to this one, except those that make emoji
+-- no rule that joins characters applies to this one, except those that make emoji or join a jamo
 pub record IsApart (c : ℕ) : Type 0 where
-  pub other : grapheme_cluster_break c ≡ Other
+  pub single : is_single (grapheme_cluster_break c) ≡ true
   pub no_conjunct : indic_conjunct_break c ≡ conjunct.None
 
 apart-from : (c : ℕ) → has_no_joiner (grapheme_cluster_break c) (indic_conjunct_break c) ≡ true → IsApart c
 unfolding has_no_joiner
-apart-from c fits = record {
-  other = grapheme_cluster_break_number_injective _ _ (grind (arith, nat_tests));
-  no_conjunct = indic_conjunct_break_number_injective _ _ (grind (arith, nat_tests));
-}
+apart-from c fits =
+    let parts = and_parts (is_single (grapheme_cluster_break c)) (indic_conjunct_break_number (indic_conjunct_break c) == 3) fits in
+    record { single = parts.0; no_conjunct = indic_conjunct_break_number_injective _ _ (eqb-true _ _ parts.1) }
+
+apart-plain : {c : ℕ} → IsApart c → IsPlain c
+apart-plain apart = record { single = apart.single; no_linker = rw apart.no_conjunct refl }
 
 second_holds : (b fits : Bool) → either_way b fits ≡ true → b ≡ true → fits ≡ true
 unfolding either_way
@@ -118,7 +120,7 @@ flag-half c is = half-from c (each_half is_half all_halves c is)
 -- ---- a character at which a text can begin anew
 
 record BeginsCluster (d : ℕ) : Type 0 where
-  value : (grapheme_cluster_break d ≡ Other) ⊎ (grapheme_cluster_break d ≡ RegionalIndicator)
+  value : (is_single (grapheme_cluster_break d) ≡ true) ⊎ (grapheme_cluster_break d ≡ RegionalIndicator)
   no_conjunct : indic_conjunct_break d ≡ conjunct.None
   no_extend : is_extend (grapheme_cluster_break d) ≡ false
   no_joiner : is_zwj (grapheme_cluster_break d) ≡ false
@@ -129,7 +131,7 @@ begins d is = by (is_simple d) refl is
     by : (simple : Bool) → is_simple d ≡ simple → (simple || is_flag_half d) ≡ true → BeginsCluster d
     by true e is =
         let apart = simple-apart d e in
-        record { value = inl apart.other; no_conjunct = apart.no_conjunct; no_extend = ap is_extend apart.other; no_joiner = ap is_zwj apart.other }
+        record { value = inl apart.single; no_conjunct = apart.no_conjunct; no_extend = single-extend _ apart.single; no_joiner = single-zwj _ apart.single }
     by false e is =
         let half = flag-half d is in
         record { value = inr half.regional; no_conjunct = half.no_conjunct; no_extend = ap is_extend half.regional; no_joiner = ap is_zwj half.regional }
@@ -146,14 +148,21 @@ anew d begins before whole = record {
 -- ---- the first cluster of a text
 
 module _ (c : ℕ) (apart : IsApart c) where
+  not_half : is_regional (grapheme_cluster_break c) ≡ false
+  not_half = single-regional (grapheme_cluster_break c) apart.single
+
   whole-simple : ends_in_half_flag (c ∷ []) ≡ false
   unfolding ends_in_half_flag
-  whole-simple = rw apart.other refl
+  whole-simple = rw not_half refl
 
-  break-simple : (v : GraphemeClusterBreak) (d : ℕ) (after : List ℕ) → grapheme_cluster_break d ≡ v → (v ≡ Other) ⊎ (v ≡ RegionalIndicator) → is_grapheme_break true (c ∷ []) (d ∷ after) ≡ true
-  unfolding is_grapheme_break ends_in_linker ends_in_half_flag
-  break-simple v d after is (inl e) = rw (apart.other, apart.no_conjunct, is, e) refl
-  break-simple v d after is (inr e) = rw (apart.other, apart.no_conjunct, is, e) refl
+  break-simple : (d : ℕ) (after : List ℕ) → BeginsCluster d → is_grapheme_break true (c ∷ []) (d ∷ after) ≡ true
+  break-simple d after next = by next.value
+    where
+      by : (is_single (grapheme_cluster_break d) ≡ true) ⊎ (grapheme_cluster_break d ≡ RegionalIndicator) → is_grapheme_break true (c ∷ []) (d ∷ after) ≡ true
+      unfolding is_grapheme_break ends_in_linker ends_in_half_flag
+      by (inl e) = breaks_between c d (apart-plain apart) (record { single = e; no_linker = rw next.no_conjunct refl }) [] after
+      by (inr e) =
+          rw (e, no_pair-regional (grapheme_cluster_break c) apart.single, apart.no_conjunct, single-zwj (grapheme_cluster_break c) apart.single, not_half) refl
 
   last-simple : cut (is_grapheme_break true) [] (c ∷ []) [] ≡ (c ∷ []) ∷ cut (is_grapheme_break true) [] [] []
   unfolding cut is_grapheme_break
@@ -165,7 +174,7 @@ module _ (c : ℕ) (apart : IsApart c) where
   cut-simple [] is = last-simple
   cut-simple (d ∷ cs) is =
       let next = begins d is in
-      cond-true _ _ _ (break-simple (grapheme_cluster_break d) d (cs ++ []) refl next.value)
+      cond-true _ _ _ (break-simple d (cs ++ []) next)
       ∙ ap (λ (pieces : List (List ℕ)). (c ∷ []) ∷ pieces) (cut-anew d (c ∷ []) (anew d next (c ∷ []) whole-simple) cs)
 
 module _ (b c : ℕ) (first : IsHalf b) (second : IsHalf c) where
@@ -177,10 +186,14 @@ module _ (b c : ℕ) (first : IsHalf b) (second : IsHalf c) where
   unfolding ends_in_half_flag
   whole-flag = rw (first.regional, second.regional) refl
 
-  break-flag : (v : GraphemeClusterBreak) (d : ℕ) (after : List ℕ) → grapheme_cluster_break d ≡ v → (v ≡ Other) ⊎ (v ≡ RegionalIndicator) → is_grapheme_break true (c ∷ b ∷ []) (d ∷ after) ≡ true
-  unfolding is_grapheme_break ends_in_linker ends_in_half_flag
-  break-flag v d after is (inl e) = rw (first.regional, second.regional, second.no_conjunct, is, e) refl
-  break-flag v d after is (inr e) = rw (first.regional, second.regional, second.no_conjunct, is, e) refl
+  break-flag : (d : ℕ) (after : List ℕ) → BeginsCluster d → is_grapheme_break true (c ∷ b ∷ []) (d ∷ after) ≡ true
+  break-flag d after next = by next.value
+    where
+      by : (is_single (grapheme_cluster_break d) ≡ true) ⊎ (grapheme_cluster_break d ≡ RegionalIndicator) → is_grapheme_break true (c ∷ b ∷ []) (d ∷ after) ≡ true
+      unfolding is_grapheme_break ends_in_linker ends_in_half_flag
+      by (inl e) =
+          rw (second.regional, regional-no_pair (grapheme_cluster_break d) e, second.no_conjunct, first.regional, single-regional (grapheme_cluster_break d) e) refl
+      by (inr e) = rw (first.regional, second.regional, second.no_conjunct, e) refl
 
   last-flag : cut (is_grapheme_break true) (b ∷ []) (c ∷ []) [] ≡ (c ∷ []) ∷ cut (is_grapheme_break true) [] [] []
   unfolding cut is_grapheme_break
@@ -191,7 +204,7 @@ module _ (b c : ℕ) (first : IsHalf b) (second : IsHalf c) where
   cut-second [] is = last-flag
   cut-second (d ∷ cs) is =
       let next = begins d is in
-      cond-true _ _ _ (break-flag (grapheme_cluster_break d) d (cs ++ []) refl next.value)
+      cond-true _ _ _ (break-flag d (cs ++ []) next)
       ∙ ap (λ (pieces : List (List ℕ)). (c ∷ []) ∷ pieces) (cut-anew d (c ∷ b ∷ []) (anew d next (c ∷ b ∷ []) whole-flag) cs)
 
   -- a flag
@@ -228,7 +241,7 @@ pub columns-simple : (text after : List ℕ) (c : ℕ) → IsUtf8 text → text 
 columns-simple text after c utf8 is simple =
     let scalar = first-scalar c (chars after) (ap all_scalars (sym (chars_past_char text after c utf8 is)) ∙ scalars-chars text utf8) in
     ap columns_of (sym (append-nil (encode_utf8 c))) ∙ columns_of-encoded (c ∷ []) scalar
-    ∙ cond-false (is_control c || false) 0 (sum_by char_columns (c ∷ [])) (ap (λ (b : Bool). b || false) (other-visible c (simple-apart c simple).other))
+    ∙ cond-false (is_control c || false) 0 (sum_by char_columns (c ∷ [])) (ap (λ (b : Bool). b || false) (single-visible c (simple-apart c simple).single))
     ∙ omega (arith, sum_by-cons char_columns c [])
 
 all_one : all_below (λ k. char_columns (0x1F1E6 + k) == 1) 26 ≡ true

@@ -12,7 +12,7 @@ use Rattle.std.proofs.Math.Bool.{or-false}
 use Rattle.std.proofs.lemmas.Str.{chars-encodes, scalars-chars}
 use Rattle.ucd_breaks.specs.GraphemeClusterBreak.{grapheme_cluster_break}
 use Rattle.ucd_breaks.specs.declared.GraphemeClusterBreak.{GraphemeClusterBreak}
-use Rattle.ucd_breaks.specs.declared.GraphemeClusterBreak.TheVariants.{Control, Cr, Lf, Other, RegionalIndicator}
+use Rattle.ucd_breaks.specs.declared.GraphemeClusterBreak.TheVariants.{Control, Cr, Lf, RegionalIndicator}
 use Rattle.ucd_breaks.proofs.GraphemeClusterBreakLemmas.{grapheme_cluster_break_stepped}
 use Rattle.ucd_table.proofs.Computing.{tables}
 use Rattle.ucd_table.proofs.RangedFacts.{points_ok, Stepped-at_points}
@@ -22,6 +22,7 @@ use Rattle.unicode_segmentation.specs.Grapheme.{break_by_pair, graphemes, is_gra
 use Rattle.unicode_segmentation.specs.Segments.{prepend, cut, segments}
 use Rattle.unicode_width.specs.Width.{char_width}
 use Rattle.textarea_paint.specs.Columns.{char_columns, columns_of}
+use Rattle.textarea_paint.proofs.PlainLemmas.{is_single}
 
 -- ---- control characters
 
@@ -58,9 +59,15 @@ visible-if : (c : ℕ) (b : Bool) → is_control c ≡ b → is_apart (grapheme_
 visible-if c true is other = absurd (false≢true (sym other ∙ control-apart c is))
 visible-if c false is other = is
 
-pub other-visible : (c : ℕ) → grapheme_cluster_break c ≡ Other → is_control c ≡ false
+single-visible-if : (v : GraphemeClusterBreak) → is_single v ≡ true → is_apart v ≡ false
 unfolding is_apart
-other-visible c other = visible-if c (is_control c) refl (ap is_apart other)
+single-visible-if Control is = absurd (false≢true is)
+single-visible-if Cr is = absurd (false≢true is)
+single-visible-if Lf is = absurd (false≢true is)
+single-visible-if _ is = refl
+
+pub single-visible : (c : ℕ) → is_single (grapheme_cluster_break c) ≡ true → is_control c ≡ false
+single-visible c single = visible-if c (is_control c) refl (single-visible-if (grapheme_cluster_break c) single)
 
 pub regional-visible : (c : ℕ) → grapheme_cluster_break c ≡ RegionalIndicator → is_control c ≡ false
 unfolding is_apart

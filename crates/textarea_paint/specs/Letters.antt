@@ -22,10 +22,10 @@ other_narrow_letters =
 abbrev pub ideographs : List Range
 ideographs = (0x4E00, 0xA48C) ∷ []
 
--- punctuation and kana, rare ideographs, wide forms, and emoji. There are others of two columns.
+-- punctuation and kana, rare ideographs, Hangul syllables, wide forms, and emoji. There are others of two columns.
 abbrev pub other_wide_letters : List Range
 other_wide_letters =
-    (0x3000, 0x3029) ∷ (0x3041, 0x3096) ∷ (0x309B, 0x30FF) ∷ (0x3400, 0x4DBF) ∷ (0xFF01, 0xFF60) ∷ (0x1F400, 0x1F43E) ∷ (0x1F442, 0x1F4FC)
+    (0x3000, 0x3029) ∷ (0x3041, 0x3096) ∷ (0x309B, 0x30FF) ∷ (0x3400, 0x4DBF) ∷ (0xAC00, 0xD7A3) ∷ (0xFF01, 0xFF60) ∷ (0x1F400, 0x1F43E) ∷ (0x1F442, 0x1F4FC)
     ∷ (0x1F600, 0x1F64F) ∷ (0x20000, 0x2FA1D) ∷ []
 
 abbrev pub is_narrow : ℕ → Bool

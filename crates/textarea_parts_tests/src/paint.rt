@@ -34,7 +34,7 @@ type Case = (Drawing, &'static str);
 
 const UNTOUCHED: &str = " | | | |\n | | | |\n | | | |\n";
 
-static CASES: [Case; 48] = [
+static CASES: [Case; 49] = [
     (Row(("a犬b", ""), Left, 0, 2), " |a| | | | |\n"),
     (Row(("a犬b", ""), Left, 0, 5), " |a|犬||b| |\n"),
     (Row(("a犬b", ""), Left, 1, 4), " |犬||b| | |\n"),
@@ -69,6 +69,8 @@ static CASES: [Case; 48] = [
         " |é|д\u{301}|犬\u{301}|| |\n",
     ),
     (Row(("éд", "\u{301}я"), Left, 0, 5), " |é|д|я| | |\n"),
+    // A jamo joins the syllable before it.
+    (Row(("한가\u{11A8}", ""), Left, 0, 5), " |한||가\u{11A8}|| |\n"),
     (Row(("a", "\u{301}b"), Left, 0, 5), " |a|b| | | |\n"),
     (Row(("ab", "c"), Center, 9, 5), " | |a|b|c| |\n"),
     (Row(("ab", "c"), Center, 0, 4), " | |a|b|c| |\n"),
@@ -190,7 +192,7 @@ fn rows_and_blocks(rt: HostRuntime) -> Result<(), Fail> {
 
 /// The first and the last character of each range whose columns are found without a table, and those
 /// beside them.
-static EDGES: [char; 94] = [
+static EDGES: [char; 98] = [
     '\u{9F}', '\u{A0}', '\u{AC}', '\u{AD}', '\u{AE}', '\u{2FF}', '\u{300}', '\u{36F}', '\u{370}',
     '\u{482}', '\u{483}', '\u{489}', '\u{48A}', '\u{52F}', '\u{530}', '\u{5CF}', '\u{5D0}',
     '\u{5DB}', '\u{5DC}', '\u{5DD}', '\u{5EA}', '\u{5EB}', '\u{61F}', '\u{620}', '\u{64A}',
@@ -200,7 +202,7 @@ static EDGES: [char; 94] = [
     '\u{231A}', '\u{24FF}', '\u{2500}', '\u{25FC}', '\u{25FD}', '\u{2FFF}', '\u{3000}', '\u{3029}',
     '\u{302A}', '\u{3040}', '\u{3041}', '\u{3096}', '\u{3097}', '\u{309A}', '\u{309B}', '\u{30FF}',
     '\u{3100}', '\u{33FF}', '\u{3400}', '\u{4DBF}', '\u{4DC0}', '\u{4DFF}', '\u{4E00}', '\u{A48C}',
-    '\u{A48D}', '\u{FF00}', '\u{FF01}', '\u{FF60}', '\u{FF61}', '\u{1F3FF}', '\u{1F400}',
+    '\u{A48D}', '\u{ABFF}', '\u{AC00}', '\u{D7A3}', '\u{D7A4}', '\u{FF00}', '\u{FF01}', '\u{FF60}', '\u{FF61}', '\u{1F3FF}', '\u{1F400}',
     '\u{1F43E}', '\u{1F43F}', '\u{1F441}', '\u{1F442}', '\u{1F4FC}', '\u{1F4FD}', '\u{1F5FF}',
     '\u{1F600}', '\u{1F64F}', '\u{1F650}', '\u{1FFFF}', '\u{20000}', '\u{2FA1D}', '\u{2FA1E}',
 ];

@@ -154,10 +154,12 @@ fn is_other_wide(c: char) -> bool
     let hiragana = is_within(c, '\u{3041}', '\u{3096}');
     let katakana = is_within(c, '\u{309B}', '\u{30FF}');
     let rare = is_within(c, '\u{3400}', '\u{4DBF}');
+    let hangul = is_within(c, '\u{AC00}', '\u{D7A3}');
     let wide_forms = is_within(c, '\u{FF01}', '\u{FF60}');
     let animals = is_within(c, '\u{1F400}', '\u{1F43E}');
     let pictures = is_within(c, '\u{1F442}', '\u{1F4FC}');
     let faces = is_within(c, '\u{1F600}', '\u{1F64F}');
     let rarest = is_within(c, '\u{20000}', '\u{2FA1D}');
-    punctuation | hiragana | katakana | rare | wide_forms | animals | pictures | faces | rarest
+    let eastern = punctuation | hiragana | katakana | rare | hangul;
+    eastern | wide_forms | animals | pictures | faces | rarest
 }

@@ -126,11 +126,12 @@ fn is_late(c: char) -> bool
     let brackets = is_within(c, '\u{3000}', '\u{3029}');
     let hiragana = is_within(c, '\u{3030}', '\u{3098}');
     let ideographs = is_within(c, '\u{309B}', '\u{A66E}');
+    let hangul = is_within(c, '\u{AC00}', '\u{D7A3}');
     let wide_forms = is_within(c, '\u{FF00}', '\u{FF9D}');
     let tiles = is_within(c, '\u{1F000}', '\u{1F1E5}');
     let pictures = is_within(c, '\u{1F200}', '\u{1F3FA}');
     let faces = is_within(c, '\u{1F400}', '\u{3FFFF}');
-    brackets | hiragana | ideographs | wide_forms | tiles | pictures | faces
+    brackets | hiragana | ideographs | hangul | wide_forms | tiles | pictures | faces
 }
 
 pub(super) fn is_within(c: char, first: char, last: char) -> bool

@@ -11,6 +11,7 @@ returns c =
       c.is_within-hiragana.ensures,
       c.is_within-katakana.ensures,
       c.is_within-rare.ensures,
+      c.is_within-hangul.ensures,
       c.is_within-wide_forms.ensures,
       c.is_within-animals.ensures,
       c.is_within-pictures.ensures,
