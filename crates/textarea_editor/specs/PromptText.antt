@@ -7,15 +7,18 @@ use Rattle.textarea_editor.specs.declared.focus.Asked.{Asked}
 use Rattle.textarea_editor.specs.declared.focus.Asked.TheVariants as asks
 use Rattle.textarea_text.specs.Fragment.{fragment_symbols}
 use Rattle.tui_textarea.specs.Edits.{str_inserted}
+use Rattle.tui_textarea.specs.Guards.{unless_read_only}
 use Rattle.tui_textarea.specs.Removals.{text_cleared}
 use Rattle.tui_textarea.specs.State.{State}
 
 -- the prompt's text is the name, up to a line end in it, with the cursor at its end; or it is empty
 abbrev pub name_filled : State → Option (String Global) → State
-name_filled field None = text_cleared field
-name_filled field (Some name) = str_inserted (text_cleared field) (fragment_symbols (first_line (chars (string_bytes name))))
+name_filled field None = unless_read_only field (text_cleared field)
+name_filled field (Some name) =
+    let cleared = unless_read_only field (text_cleared field) in
+    unless_read_only cleared (str_inserted cleared (fragment_symbols (first_line (chars (string_bytes name)))))
 
 -- a prompt for the name has that of the file, to be edited; another one is empty
 abbrev pub IsPromptFilled : Asked → Option (String Global) → State → State → Type 0
 IsPromptFilled asks.Name name field new = new ≡ name_filled field name
-IsPromptFilled other name field new = new ≡ text_cleared field
+IsPromptFilled other name field new = new ≡ unless_read_only field (text_cleared field)

@@ -42,6 +42,7 @@ mod Replacing
 mod RangesOverActions
 mod Lifted
 mod Unedited
+mod ReadOnly
 mod Unselected
 mod CursorLine
 pub mod CallWraps
