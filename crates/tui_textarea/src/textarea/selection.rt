@@ -55,12 +55,25 @@ impl TextArea<'_> {
         ensures err { OnErr result (self.new ≡ self.old) }
         ensures nothing { is_selected self.old.document ≡ false → IsOk result }
     {
-        if let Some((start, end)) = self.document.filled_selection() {
-            let copied = between(self.allocator(), self.document.lines(), start, end)?;
-            self.yank = Arc::new(self.allocator(), copied)?;
-        }
-        self.document.set_anchor(None);
+        self.copy_selected()?;
         Ok(())
+    }
+
+    // The same, and returns whether there was any.
+    fn copy_selected(&mut self) -> Result<bool, AllocError>
+        ensures copied { IfOk result (λ copied. copied ≡ is_selected self.old.document) }
+        ensures ok { OnOk result (self.new ≡ selection_copied self.old) }
+        ensures err { OnErr result (self.new ≡ self.old) }
+        ensures nothing { is_selected self.old.document ≡ false → IsOk result }
+    {
+        let Some((start, end)) = self.document.filled_selection() else {
+            self.document.set_anchor(None);
+            return Ok(false);
+        };
+        let copied = between(self.allocator(), self.document.lines(), start, end)?;
+        self.yank = Arc::new(self.allocator(), copied)?;
+        self.document.set_anchor(None);
+        Ok(true)
     }
 
     /// Yanks and removes the selected text, returns whether there was any, and drops the selection. A
@@ -73,9 +86,7 @@ impl TextArea<'_> {
         ensures nothing { is_selected self.old.document ≡ false → IsOk result }
     {
         if self.read_only() {
-            let selected = self.document.filled_selection().is_some();
-            self.copy()?;
-            return Ok(selected);
+            return self.copy_selected();
         }
         self.cut_unguarded()
     }
