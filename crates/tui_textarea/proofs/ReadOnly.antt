@@ -1,5 +1,9 @@
 -- In a text area that is read only the text stays.
+<<<<<<< HEAD
 use Rattle.std.proofs.Common.{◌≡◌, ◌∙◌, ◌&&◌, ◌||◌, Bool, true, false, ap, refl}
+=======
+use Rattle.std.proofs.Common.{◌≡◌, ◌∙◌, ◌&&◌, Bool, true, false, ap, refl}
+>>>>>>> guards
 use Rattle.std.proofs.lemmas.Bool.{cond-true, false≢true, not-false}
 use Rattle.textarea_calls.specs.Edits.{edits}
 use Rattle.textarea_calls.specs.FlagRule.{may_change_text}
@@ -19,17 +23,24 @@ use Rattle.tui_textarea.proofs.Unedited.{SameText, act_unedited, copied, text, u
 IsReadOnly : State → Type 0
 IsReadOnly state = state.settings.read_only ≡ true
 
+<<<<<<< HEAD
 or_right : (a b : Bool) → b ≡ true → (a || b) ≡ true
 or_right true b e = refl
 or_right false b e = e
 
+=======
+>>>>>>> guards
 both : (a b : Bool) → a ≡ true → b ≡ true → (a && b) ≡ true
 both true b e f = f
 both false b e f = absurd (false≢true e)
 
 barred : (state : State) (made : Call) → edits made ≡ true → IsReadOnly state → (¬ SetsLines made) → is_barred state made ≡ true
 barred state (call.SetLines lines cursor) e read_only others = absurd (others tt)
+<<<<<<< HEAD
 barred state made e read_only others = or_right (breaks made && state.settings.single_line) (edits made && state.settings.read_only) (both (edits made) state.settings.read_only e read_only)
+=======
+barred state made e read_only others = both (edits made) state.settings.read_only e read_only
+>>>>>>> guards
 
 barred_stays : (state : State) (made : Call) → SameText state (barred_after state made)
 barred_stays state call.Cut = copied state
