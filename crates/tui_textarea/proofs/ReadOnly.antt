@@ -14,7 +14,7 @@ use Rattle.tui_textarea.specs.Input.{IsAfterAction, asked_by, asked_without_shor
 use Rattle.tui_textarea.specs.Outcomes.{IsAfterCall}
 use Rattle.tui_textarea.specs.State.{State}
 use Rattle.tui_textarea.proofs.Acting.{the_call}
-use Rattle.tui_textarea.proofs.Unedited.{SameText, act_unedited, copied, text, unedited}
+use Rattle.tui_textarea.proofs.Unedited.{SameText, copied, text, unedited}
 
 IsReadOnly : State → Type 0
 IsReadOnly state = state.settings.read_only ≡ true
