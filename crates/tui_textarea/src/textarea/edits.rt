@@ -63,8 +63,7 @@ impl TextArea<'_> {
 
     /// Breaks the line at the cursor, or at the end of the atomic range that strictly contains it.
     pub fn insert_newline(&mut self) -> Result<(), AllocError>
-        ensures ok { OnOk result (self.new ≡ unless_read_only self.old (newline_inserted self.old))
-            }
+        ensures ok { OnOk result (self.new ≡ unless_read_only self.old (newline_inserted self.old)) }
         ensures err { OnErr result (IsInsertOutOfMemory self.old self.new) }
         ensures nothing { is_editable self.old ≡ false → IsOk result }
     {
