@@ -43,6 +43,7 @@ mod RangesOverActions
 mod Lifted
 mod Unedited
 mod ReadOnly
+mod Guarded
 mod Unselected
 mod CursorLine
 pub mod CallWraps

@@ -1,9 +1,12 @@
 -- What the guards of a text area leave out of its calls: all edits while it is read only, and line
 -- breaks while it has a single line.
-use Rattle.std.specs.Prelude.{◌&&◌, ◌||◌, ℕ, Bool, List, length, map, nat_lt, not, true, false, if◌then◌else◌}
+use Rattle.std.specs.Prelude.{◌&&◌, ◌||◌, ℕ, Bool, List, Option, None, length, map, nat_lt, not, true, false, if◌then◌else◌}
 use Rattle.textarea_calls.specs.Edits.{edits}
 use Rattle.textarea_calls.specs.declared.call.Call.{Call}
 use Rattle.textarea_calls.specs.declared.call.Call.TheVariants as call
+use Rattle.textarea_data.specs.declared.range.AtomicDeleteDirection.{AtomicDeleteDirection}
+use Rattle.textarea_data.specs.declared.range.AtomicRange.{AtomicRange}
+use Rattle.textarea_document.specs.Edits.{range_at_cursor}
 use Rattle.textarea_history.specs.Log.{empty_log}
 use Rattle.textarea_text.specs.Text.{Symbol, Break, Character, lines}
 use Rattle.tui_textarea.specs.Edits.{breaks_line}
@@ -18,6 +21,10 @@ is_editable state = not state.settings.read_only
 -- the new state, or the old one if the text area is read only
 abbrev pub unless_read_only : State → State → State
 unless_read_only old new = if old.settings.read_only then old else new
+
+-- the range at the cursor that is removed, if there is one: none if the text area is read only
+abbrev pub removable_range : State → AtomicDeleteDirection → Option AtomicRange
+removable_range state direction = if state.settings.read_only then None else range_at_cursor state.document direction
 
 -- ---- a single line
 

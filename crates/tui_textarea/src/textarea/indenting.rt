@@ -22,8 +22,7 @@ impl TextArea<'_> {
         ensures err { OnErr result (self.new ≡ self.old) }
         ensures lines { OnOk result (lines self.new.document.text ≡ (if self.old.settings.read_only
             then lines self.old.document.text else with_starts self.old.document false (tab_of
-            self.old.document self.old.settings.hard_tab_indent) 0 (lines self.old.document.text)))
-            }
+            self.old.document self.old.settings.hard_tab_indent) 0 (lines self.old.document.text))) }
         ensures nothing { is_editable self.old ≡ false → IsOk result }
     {
         if self.read_only() {

@@ -15,8 +15,8 @@ impl TextArea<'_> {
         ensures ok { OnOk result (self.new ≡ unless_read_only self.old (with_document self.old
             (after_undo self.old.document))) }
         ensures err { OnErr result (self.new ≡ self.old) }
-        ensures nothing { newest self.old.document.log ≡ None → IsOk result }
-        ensures read_only { is_editable self.old ≡ false → IsOk result }
+        ensures nothing { (is_editable self.old && is_some (newest self.old.document.log)) ≡ false
+            → IsOk result }
     {
         if self.read_only() {
             return Ok(false);
@@ -44,8 +44,8 @@ impl TextArea<'_> {
         ensures ok { OnOk result (self.new ≡ unless_read_only self.old (with_document self.old
             (after_redo self.old.document))) }
         ensures err { OnErr result (self.new ≡ self.old) }
-        ensures nothing { next self.old.document.log ≡ None → IsOk result }
-        ensures read_only { is_editable self.old ≡ false → IsOk result }
+        ensures nothing { (is_editable self.old && is_some (next self.old.document.log)) ≡ false
+            → IsOk result }
     {
         if self.read_only() {
             return Ok(false);

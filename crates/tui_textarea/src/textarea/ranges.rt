@@ -1,6 +1,6 @@
 //! Atomic ranges: spans of characters in a line that are edited as a whole.
-ghost use Rattle.std.specs.Prelude.{◌≡◌, IfOk, IsOk, MatchResult, None, OnErr, OnOk, is_some, false, if◌then◌else◌};
-ghost use Rattle.tui_textarea.specs.Prelude.{lines, range_around, AreInOrder, AreRejected, AreValid, range_at_cursor, cursor_normalized, atomic_range_removed, ranges_accepted, ranges_cleared, is_editable, unless_read_only};
+ghost use Rattle.std.specs.Prelude.{◌≡◌, IfOk, IsOk, MatchResult, None, OnErr, OnOk, is_some};
+ghost use Rattle.tui_textarea.specs.Prelude.{lines, range_around, AreInOrder, AreRejected, AreValid, range_at_cursor, cursor_normalized, atomic_range_removed, ranges_accepted, ranges_cleared, removable_range, unless_read_only};
 
 use crate::textarea::TextArea;
 use std::alloc::AllocError;
@@ -40,8 +40,7 @@ impl TextArea<'_> {
             error.rejected.items)) }
         ensures set { IfOk result
             (λ outcome. OnOk outcome (self.new ≡ ranges_accepted self.old ranges.items)) }
-        ensures unchanged_if_rejected { IfOk result (λ outcome. OnErr outcome (self.new ≡ self.old))
-            }
+        ensures unchanged_if_rejected { IfOk result (λ outcome. OnErr outcome (self.new ≡ self.old)) }
         ensures err { OnErr result (self.new ≡ self.old) }
     {
         self.document.try_set_ranges(ranges)
@@ -88,13 +87,11 @@ impl TextArea<'_> {
         &mut self,
         direction: AtomicDeleteDirection,
     ) -> Result<Option<AtomicRange>, AllocError>
-        ensures removed { IfOk result (λ range. range ≡ (if self.old.settings.read_only then None
-            else range_at_cursor self.old.document direction)) }
-        ensures ok { OnOk result (self.new ≡ unless_read_only self.old (atomic_range_removed
-            self.old direction)) }
+        ensures removed { IfOk result (λ range. range ≡ removable_range self.old direction) }
+        ensures ok { OnOk result
+            (self.new ≡ unless_read_only self.old (atomic_range_removed self.old direction)) }
         ensures err { OnErr result (self.new ≡ self.old) }
-        ensures nothing { range_at_cursor self.old.document direction ≡ None → IsOk result }
-        ensures read_only { is_editable self.old ≡ false → IsOk result }
+        ensures nothing { removable_range self.old direction ≡ None → IsOk result }
     {
         if self.read_only() {
             return Ok(None);
