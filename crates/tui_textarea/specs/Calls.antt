@@ -1,5 +1,5 @@
 -- What each call does: its result, the state after it, its splices, and where it may run out of memory.
-use Rattle.std.specs.Prelude.{◌≡◌, ◌≢◌, true, false, List, [], ◌∷◌, is_some, length, not, None, Some, String}
+use Rattle.std.specs.Prelude.{◌≡◌, ◌≢◌, ◌&&◌, true, false, List, [], ◌∷◌, if◌then◌else◌, is_some, length, not, None, Some, String}
 use Rattle.std.specs.Duration.{as_nanos}
 use Rattle.std.specs.Str.{chars}
 use Rattle.textarea_text.specs.Place.{Place}
