@@ -17,12 +17,14 @@ use Rattle.textarea_document.specs.Outcomes.{after_edit, after_redo, after_undo}
 use Rattle.textarea_document.specs.Sound.{IsSound}
 use Rattle.textarea_document.proofs.Changing.{leads_on, no_change_leads}
 use Rattle.tui_textarea.specs.CallResults.{CallResult, Measured, PatternRejected, Place as PlaceFound}
-use Rattle.tui_textarea.specs.Calls.{ranges_result, rejected_ranges, with_ranges_if}
+use Rattle.tui_textarea.specs.Calls.{ranges_result, rejected_ranges, with_ranges_if, with_lines}
 use Rattle.tui_textarea.specs.ChangesOverCalls.{ChangesFollow, SetsLog, taken_by}
+use Rattle.tui_textarea.specs.Guards.{bars_lines}
 use Rattle.tui_textarea.specs.Input.{asked_by, asked_without_shortcuts}
 use Rattle.tui_textarea.specs.Outcomes.{IsAfterCall, IsAfterOutOfMemory, IsPatternCallResult, IsResultOf}
 use Rattle.tui_textarea.specs.State.{State}
 use Rattle.tui_textarea.proofs.Acting.{Past, by_any_act, calls_by, calls_left}
+use Rattle.tui_textarea.proofs.Cases.{by_test}
 use Rattle.tui_textarea.proofs.Frames.{drawn_document}
 use Rattle.tui_textarea.proofs.Stepping.{LayoutAndRanges, Reckoning, layout_and_ranges}
 
