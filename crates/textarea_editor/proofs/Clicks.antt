@@ -1,12 +1,18 @@
 -- Clicks on a draft.
-use Rattle.std.proofs.Common.{◌≡◌, [], ◌∷◌, ◌++◌, ℕ, Bool, List, Option, None, Some, inr, refl, subst}
+use Rattle.std.proofs.Common.{◌≡◌, ◌∙◌, ◌<◌, [], ◌∷◌, ◌++◌, ℕ, Bool, List, Option, None, Some, String, ap, arith, inr, length, refl, subst}
+use Rattle.std.proofs.lemmas.List.{length-map}
+use Rattle.std.specs.Option.{IfSome}
+use Rattle.std.specs.declared.alloc.Global.{Global}
 use Rattle.textarea_calls.specs.declared.call.Call.{Call}
 use Rattle.textarea_calls.specs.declared.call.Call.TheVariants.{GoTo}
 use Rattle.textarea_editor.proofs.Drafts.{fails_before, fails_then, makes_none, makes_then}
 use Rattle.textarea_editor.specs.Draft.{FailsIn, FailsInSome, Makes, MakesSome}
-use Rattle.textarea_editor.specs.EventCalls.{IsClick, is_selecting, selection_calls}
+use Rattle.textarea_editor.specs.EventCalls.{IsClick, IsWholeClick, ends_calls, is_selecting, selection_calls}
+use Rattle.textarea_editor.specs.Extents.{IsExtent}
 use Rattle.textarea_editor.specs.declared.draft.Draft.{Draft}
-use Rattle.textarea_text.specs.Place.{Place}
+use Rattle.textarea_editor.specs.declared.extents.Extent.{Extent}
+use Rattle.textarea_text.specs.Place.{IsPlace, Place}
+use Rattle.textarea_text.specs.Text.{characters_of, lines, lines_of}
 use Rattle.tui_textarea.specs.Drawing.{widget_of}
 use Rattle.tui_textarea.specs.Hit.{IsHitTest}
 use Rattle.tui_textarea.specs.State.{State}
@@ -58,3 +64,49 @@ clicks_fail_then selects old mid new read column row found place same is hit fir
   asked = asked_of selects old read column row found place same is hit;
   fails = fails_then old mid new (selection_calls selects (is_selecting old.area)) (GoTo place ∷ []) first fails;
 })
+
+-- ---- clicks that select a word or a line
+
+-- the calls of one on this draft
+abbrev pub WholeClicks : Extent → Draft → ℕ → ℕ → List Call → Type 0
+WholeClicks extent old column row = IsWholeClick extent (widget_of old.area) column row
+
+-- the cell shows nothing
+pub whole_none : (extent : Extent) (old : Draft) (read : State) (column row : ℕ) (found : Option Place) → read ≡ old.area → found ≡ None → IsHitTest (widget_of read) column row found → MakesSome (WholeClicks extent old column row) old old
+whole_none extent old read column row found same none hit =
+    let asked : WholeClicks extent old column row [] = record { found = None; found_is = hit_of old.area read column row found None same none hit; ends = None; ends_are = refl; calls_are = refl } in
+    record { calls = []; asked = asked; makes = makes_none old }
+
+whole_asked : (extent : Extent) (old : Draft) (read : State) (column row : ℕ) (found : Option Place) (place : Place) (rows : List (List ℕ)) (ends : Option (Place × Place))
+    → read ≡ old.area → found ≡ Some place → IsHitTest (widget_of read) column row found → rows ≡ lines read.document.text → IsExtent extent rows place ends → WholeClicks extent old column row (ends_calls ends)
+whole_asked extent old read column row found place rows ends same is hit shown is_extent = record {
+  found = Some place;
+  found_is = hit_of old.area read column row found (Some place) same is hit;
+  ends = ends;
+  ends_are = subst (λ (r : List (List ℕ)). IsExtent extent r place ends) (shown ∙ ap (λ (s : State). lines s.document.text) same) is_extent;
+  calls_are = refl;
+}
+
+pub whole_made : (extent : Extent) (old new : Draft) (read : State) (column row : ℕ) (found : Option Place) (place : Place) (rows : List (List ℕ)) (ends : Option (Place × Place))
+    → read ≡ old.area → found ≡ Some place → IsHitTest (widget_of read) column row found → rows ≡ lines read.document.text → IsExtent extent rows place ends
+    → Makes old (ends_calls ends) new → MakesSome (WholeClicks extent old column row) old new
+whole_made extent old new read column row found place rows ends same is hit shown is_extent makes = record {
+  calls = ends_calls ends;
+  asked = whole_asked extent old read column row found place rows ends same is hit shown is_extent;
+  makes = makes;
+}
+
+pub whole_fails : (extent : Extent) (old new : Draft) (read : State) (column row : ℕ) (found : Option Place) (place : Place) (rows : List (List ℕ)) (ends : Option (Place × Place))
+    → read ≡ old.area → found ≡ Some place → IsHitTest (widget_of read) column row found → rows ≡ lines read.document.text → IsExtent extent rows place ends
+    → FailsIn old (ends_calls ends) new → FailsInSome (WholeClicks extent old column row) old new
+whole_fails extent old new read column row found place rows ends same is hit shown is_extent fails = inr (record {
+  calls = ends_calls ends;
+  asked = whole_asked extent old read column row found place rows ends same is hit shown is_extent;
+  fails = fails;
+})
+
+-- the row of a position in the text is one of its lines
+pub row_shown : (strings : List (String Global)) (read : State) (found : Option Place) (place : Place) → lines_of strings ≡ lines read.document.text → found ≡ Some place → IfSome found (IsPlace read.document.text) → place.0 < length strings
+row_shown strings read found place shown is within =
+    let here : IsPlace read.document.text place = subst (λ (o : Option Place). IfSome o (IsPlace read.document.text)) is within in
+    omega (arith, here.0, ap (λ (r : List (List ℕ)). length r) shown, length-map strings characters_of)

@@ -5,4 +5,5 @@ mod FileLines
 mod Texts
 mod Times
 mod Clicks
+mod Runs
 mod Saved

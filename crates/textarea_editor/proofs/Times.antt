@@ -70,33 +70,33 @@ input_at (focus.Prompt asked) editor draft area time input calls is = is
 input_at (focus.Question question) editor draft area time input calls is = is
 input_at focus.Help editor draft area time input calls is = is
 
-event_at : (editor : Editor) (draft : Draft) (area : State) (time : ℕ) (this : Event) (calls : List Call) → IsEvent (with_draft editor draft) (at_time area time) this calls → IsEvent editor area this calls
-event_at editor draft area time (event.Input input) calls is = input_at editor.controls.focus editor draft area time (typed_input input) calls is
-event_at editor draft area time (event.Paste text) calls is = paste_at editor.controls.focus is
+event_at : (editor : Editor) (draft : Draft) (area : State) (time : ℕ) (now : Duration) (this : Event) (calls : List Call) → IsEvent (with_draft editor draft) (at_time area time) now this calls → IsEvent editor area now this calls
+event_at editor draft area time now (event.Input input) calls is = input_at editor.controls.focus editor draft area time (typed_input input) calls is
+event_at editor draft area time now (event.Paste text) calls is = paste_at editor.controls.focus is
   where
     paste_at : (asked : Focus) → IsPaste asked (with_draft editor draft) (string_bytes text) calls → IsPaste asked editor (string_bytes text) calls
     paste_at focus.Text is = is
     paste_at (focus.Prompt asked) is = is
     paste_at (focus.Question question) is = is
     paste_at focus.Help is = is
-event_at editor draft area time (event.Mouse mouse) calls is = is
-event_at editor draft area time other calls is = is
+event_at editor draft area time now (event.Mouse mouse) calls is = is
+event_at editor draft area time now other calls is = is
 
-later_at : (editor : Editor) (draft : Draft) (time : ℕ) (this : Event) (calls : List Call) → draft.area ≡ at_time editor.draft.area time → IsEvent (with_draft editor draft) draft.area this calls → IsEvent editor editor.draft.area this calls
-later_at editor draft time this calls set is =
-    event_at editor draft editor.draft.area time this calls (subst (λ (s : State). IsEvent (with_draft editor draft) s this calls) set is)
+later_at : (editor : Editor) (draft : Draft) (time : ℕ) (now : Duration) (this : Event) (calls : List Call) → draft.area ≡ at_time editor.draft.area time → IsEvent (with_draft editor draft) draft.area now this calls → IsEvent editor editor.draft.area now this calls
+later_at editor draft time now this calls set is =
+    event_at editor draft editor.draft.area time now this calls (subst (λ (s : State). IsEvent (with_draft editor draft) s now this calls) set is)
 
 timed : (old : Editor) (draft : Draft) (now : Duration) (this : Event) (later : List Call) → draft.area ≡ at_time old.draft.area (as_nanos now)
-    → IsEvent (with_draft old draft) draft.area this later → IsTimed old now this (SetNow now ∷ later)
+    → IsEvent (with_draft old draft) draft.area now this later → IsTimed old now this (SetNow now ∷ later)
 timed old draft now this later set is = record {
   later = later;
-  asked = later_at old draft (as_nanos now) this later set is;
+  asked = later_at old draft (as_nanos now) now this later set is;
   calls_are = refl;
 }
 
 -- the time was set, and then came the calls of the event
 pub step_makes : (old : Editor) (draft new : Draft) (now : Duration) (this : Event) → draft.area ≡ at_time old.draft.area (as_nanos now) → Makes old.draft (SetNow now ∷ []) draft
-    → MakesSome (IsEvent (with_draft old draft) draft.area this) draft new → MakesSome (IsTimed old now this) old.draft new
+    → MakesSome (IsEvent (with_draft old draft) draft.area now this) draft new → MakesSome (IsTimed old now this) old.draft new
 step_makes old draft new now this set first made = record {
   calls = SetNow now ∷ made.calls;
   asked = timed old draft now this made.calls set made.asked;
@@ -104,7 +104,7 @@ step_makes old draft new now this set first made = record {
 }
 
 pub step_fails : (old : Editor) (draft new : Draft) (now : Duration) (this : Event) → draft.area ≡ at_time old.draft.area (as_nanos now) → Makes old.draft (SetNow now ∷ []) draft
-    → FailsInSome (IsEvent (with_draft old draft) draft.area this) draft new → (FailsIn old.draft (SetNow now ∷ []) new ⊎ FailsInAsked (IsTimed old now this) old.draft new)
+    → FailsInSome (IsEvent (with_draft old draft) draft.area now this) draft new → (FailsIn old.draft (SetNow now ∷ []) new ⊎ FailsInAsked (IsTimed old now this) old.draft new)
 step_fails old draft new now this set first (inl early) = inl (fails_then old.draft draft new (SetNow now ∷ []) [] first early)
 step_fails old draft new now this set first (inr fails) = inr (record {
   calls = SetNow now ∷ fails.calls;

@@ -1,8 +1,10 @@
 -- What decides what the next event does, after each event, as a table.
 use Rattle.std.specs.Prelude.{◌≡◌, ◌≢◌, not, Bool, true, false, [], Option, Some, None, is_some, if◌then◌else◌}
+use Rattle.std.specs.declared.time.Duration.{Duration}
 use Rattle.textarea_data.specs.declared.input.Input.{Input}
 use Rattle.textarea_data.specs.declared.input.Key.{Key}
 use Rattle.textarea_data.specs.declared.input.Key.TheVariants.{MouseScrollDown, MouseScrollUp}
+use Rattle.textarea_editor.specs.Clicks.{press_after}
 use Rattle.textarea_editor.specs.EventCalls.{IsBoundCommand}
 use Rattle.textarea_editor.specs.HelpKeys.{help_key}
 use Rattle.textarea_editor.specs.PromptKeys.{prompt_key}
@@ -27,6 +29,7 @@ use Rattle.textarea_modal.specs.Table.{Step, step}
 use Rattle.textarea_modal.specs.declared.mode.Mode.{Mode}
 use Rattle.textarea_terminal.specs.declared.input.event.Event.{Event}
 use Rattle.textarea_terminal.specs.declared.input.event.Event.TheVariants as event
+use Rattle.textarea_terminal.specs.declared.input.event.Mouse.{Mouse}
 use Rattle.textarea_text.specs.Place.{Place}
 use Rattle.tui_textarea.specs.State.{State}
 
@@ -144,7 +147,12 @@ IsAfterInput (focus.Prompt asked) controls named changed cursor field input new 
 IsAfterInput (focus.Question question) controls named changed cursor field input new = new ≡ after_reply question (reply_of input) controls named cursor
 IsAfterInput focus.Help controls named changed cursor field input new = new ≡ after_help_key (help_key input) controls changed
 
--- an event; after it the text may have changed or not
-abbrev pub IsAfterEvent : Controls → Bool → Bool → Place → State → Event → Controls → Type 0
-IsAfterEvent controls named changed cursor field (event.Input input) new = IsAfterInput controls.focus controls named changed cursor field (typed_input input) new
-IsAfterEvent controls named changed cursor field other new = new ≡ controls
+-- a report of the mouse at a time
+abbrev pub after_mouse : Controls → Duration → Mouse → Controls
+after_mouse controls now mouse = record controls { pressed = press_after controls.pressed now mouse mouse.kind }
+
+-- an event at a time; after it the text may have changed or not
+abbrev pub IsAfterEvent : Controls → Bool → Bool → Place → State → Duration → Event → Controls → Type 0
+IsAfterEvent controls named changed cursor field now (event.Input input) new = IsAfterInput controls.focus controls named changed cursor field (typed_input input) new
+IsAfterEvent controls named changed cursor field now (event.Mouse mouse) new = new ≡ after_mouse controls now mouse
+IsAfterEvent controls named changed cursor field now other new = new ≡ controls

@@ -3,6 +3,7 @@
 use Rattle.std.specs.Prelude.{◌≡◌, ◌⊎◌, ◌<◌, ◌≤◌, ℕ, ◌-◌, ◌==◌, ◌&&◌, ◌||◌, nat_lt, not, Bool, true, false, List, [], ◌∷◌, ◌++◌, Option, Some, None, is_some, if◌then◌else◌, slice_index_or, string_bytes, All, Contains, codes, pos, negsuc}
 use Rattle.std.specs.Borrow.{Bor}
 use Rattle.std.specs.Str.{chars}
+use Rattle.std.specs.declared.time.Duration.{Duration}
 use Rattle.textarea_calls.specs.declared.call.Call.{Call}
 use Rattle.textarea_calls.specs.declared.call.Call.TheVariants as call
 use Rattle.textarea_data.specs.declared.cursor.CursorMove.TheVariants as move
@@ -11,12 +12,18 @@ use Rattle.textarea_data.specs.declared.scroll.Scrolling.TheVariants as scrollin
 use Rattle.textarea_data.specs.declared.measure.TextAreaMeasure.{TextAreaMeasure}
 use Rattle.textarea_data.specs.declared.input.Key.{Key}
 use Rattle.textarea_data.specs.declared.input.Key.TheVariants.{Char, End, Esc, F, Home, MouseScrollDown, MouseScrollUp}
+use Rattle.textarea_editor.specs.Clicks.{click_below, click_by, clicks_of}
+use Rattle.textarea_editor.specs.Extents.{IsExtent}
 use Rattle.textarea_editor.specs.LineNumber.{IsLineNumber, row_of_line}
 use Rattle.textarea_editor.specs.Patterns.{first_line, pattern_of}
 use Rattle.textarea_editor.specs.PromptKeys.{prompt_key}
 use Rattle.textarea_editor.specs.TypedInput.{typed_input}
+use Rattle.textarea_editor.specs.declared.click.Click.{Click}
+use Rattle.textarea_editor.specs.declared.click.Click.TheVariants as click
+use Rattle.textarea_editor.specs.declared.click.Press.{Press}
 use Rattle.textarea_editor.specs.declared.controls.Controls.{Controls}
 use Rattle.textarea_editor.specs.declared.editor.Editor.{Editor}
+use Rattle.textarea_editor.specs.declared.extents.Extent.{Extent}
 use Rattle.textarea_editor.specs.declared.focus.Asked.{Asked}
 use Rattle.textarea_editor.specs.declared.focus.Asked.TheVariants as asks
 use Rattle.textarea_editor.specs.declared.focus.Focus.{Focus}
@@ -35,9 +42,6 @@ use Rattle.textarea_screen.specs.declared.screen.style.Style.{Style}
 use Rattle.textarea_terminal.specs.declared.input.event.Event.{Event}
 use Rattle.textarea_terminal.specs.declared.input.event.Event.TheVariants as event
 use Rattle.textarea_terminal.specs.declared.input.event.Mouse.{Mouse}
-use Rattle.textarea_terminal.specs.declared.input.event.MouseButton.TheVariants.{Left}
-use Rattle.textarea_terminal.specs.declared.input.event.MouseKind.{MouseKind}
-use Rattle.textarea_terminal.specs.declared.input.event.MouseKind.TheVariants.{Drag, Press}
 use Rattle.textarea_text.specs.Fragment.{fragment_symbols}
 use Rattle.textarea_text.specs.Place.{Place}
 use Rattle.textarea_text.specs.Text.{lines}
@@ -247,16 +251,11 @@ IsPaste focus.Text editor text calls = calls ≡ paste_calls text
 IsPaste (focus.Prompt asked) editor text calls = IsPasteInPrompt asked editor.controls.origin editor.field text calls
 IsPaste other editor text calls = calls ≡ []
 
--- whether the mouse moves the cursor, and then whether it selects up to there
-abbrev pub selects_by : MouseKind → Bool → Option Bool
-selects_by (Press Left) shift = Some shift
-selects_by (Drag Left) shift = Some true
-selects_by other shift = None
-
--- the same, if the text has the focus and the mouse is in a row above the status row
-abbrev pub click_of : Focus → ℕ → Mouse → Option Bool
-click_of focus.Text rows mouse = if nat_lt mouse.row (rows - 1) then selects_by mouse.kind mouse.shift else None
-click_of other rows mouse = None
+-- what the mouse does, if the text has the focus: in a row above the status row, where a press is one
+-- after the last press, and below
+abbrev pub click_of : Focus → ℕ → Option Press → Duration → Mouse → Option Click
+click_of focus.Text rows last now mouse = if nat_lt mouse.row (rows - 1) then click_by mouse.kind mouse.shift (clicks_of last now mouse) else click_below mouse.kind
+click_of other rows last now mouse = None
 
 -- a selection is opened, stays open, or is dropped; one is open before or not
 abbrev pub selection_calls : Bool → Bool → List Call
@@ -275,14 +274,41 @@ pub record IsClick (selects selecting : Bool) (widget : WidgetState) (column row
   pub found_is : IsHitTest widget column row found
   pub calls_are : calls ≡ click_calls selects selecting found
 
-abbrev pub IsMouse : Option Bool → Bool → WidgetState → Mouse → List Call → Type 0
-IsMouse None selecting widget mouse calls = calls ≡ []
-IsMouse (Some selects) selecting widget mouse calls = IsClick selects selecting widget mouse.column mouse.row calls
+-- from one position to another, and all between is selected
+abbrev pub ends_calls : Option (Place × Place) → List Call
+ends_calls None = []
+ends_calls (Some ends) = call.GoTo ends.0 ∷ call.StartSelection ∷ call.GoTo ends.1 ∷ []
+
+-- the ends of the word or line at a position, if there is one
+abbrev pub IsExtentFound : Extent → List (List ℕ) → Option Place → Option (Place × Place) → Type 0
+IsExtentFound extent rows None ends = ends ≡ None
+IsExtentFound extent rows (Some place) ends = IsExtent extent rows place ends
+
+-- a click at a column and row that selects the word or line there
+pub record IsWholeClick (extent : Extent) (widget : WidgetState) (column row : ℕ) (calls : List Call) : Type 0 where
+  pub found : Option Place
+  pub found_is : IsHitTest widget column row found
+  pub ends : Option (Place × Place)
+  pub ends_are : IsExtentFound extent (lines widget.document.text) found ends
+  pub calls_are : calls ≡ ends_calls ends
+
+-- the text is selected on to the row below; a selection is open before or not
+abbrev pub down_calls : Bool → List Call
+down_calls true = call.Move move.Down ∷ []
+down_calls false = call.StartSelection ∷ call.Move move.Down ∷ []
+
+abbrev pub IsMouse : Option Click → Bool → WidgetState → ℕ → ℕ → List Call → Type 0
+IsMouse None selecting widget column row calls = calls ≡ []
+IsMouse (Some (click.To selects)) selecting widget column row calls = IsClick selects selecting widget column row calls
+IsMouse (Some (click.Whole extent)) selecting widget column row calls = IsWholeClick extent widget column row calls
+IsMouse (Some click.Down) selecting widget column row calls = calls ≡ down_calls selecting
 
 -- ---- events
 
-abbrev pub IsEvent : Editor → State → Event → List Call → Type 0
-IsEvent editor area (event.Input input) calls = IsInput editor.controls.focus editor area (typed_input input) calls
-IsEvent editor area (event.Paste text) calls = IsPaste editor.controls.focus editor (string_bytes text) calls
-IsEvent editor area (event.Mouse mouse) calls = IsMouse (click_of editor.controls.focus editor.rows mouse) (is_selecting area) (widget_of area) mouse calls
-IsEvent editor area other calls = calls ≡ []
+-- an event at a time
+abbrev pub IsEvent : Editor → State → Duration → Event → List Call → Type 0
+IsEvent editor area now (event.Input input) calls = IsInput editor.controls.focus editor area (typed_input input) calls
+IsEvent editor area now (event.Paste text) calls = IsPaste editor.controls.focus editor (string_bytes text) calls
+IsEvent editor area now (event.Mouse mouse) calls =
+    IsMouse (click_of editor.controls.focus editor.rows editor.controls.pressed now mouse) (is_selecting area) (widget_of area) mouse.column mouse.row calls
+IsEvent editor area now other calls = calls ≡ []

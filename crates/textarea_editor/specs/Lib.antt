@@ -1,4 +1,5 @@
 pub mod Arguments
+pub mod Clicks
 pub mod ControlCharacters
 pub mod Controls
 pub mod Draft
@@ -6,6 +7,7 @@ pub mod Editor
 pub mod Effects
 pub mod EventCalls
 pub mod EventEffects
+pub mod Extents
 pub mod FileText
 pub mod HelpKeys
 pub mod JournalQuestions

@@ -18,13 +18,13 @@ use Rattle.textarea_terminal.specs.declared.input.event.Event.{Event}
 -- the calls of an event at a time: the time is set, and then come those of the table
 pub record IsTimed (old : Editor) (now : Duration) (event : Event) (calls : List Call) : Type 0 where
   pub later : List Call
-  pub asked : IsEvent old old.draft.area event later
+  pub asked : IsEvent old old.draft.area now event later
   pub calls_are : calls ≡ SetNow now ∷ later
 
 -- the calls of an event were made, then the next event is for what the table says, and the program does what the table says
 pub record Succeeds (old : Editor) (now : Duration) (event : Event) (effect : Effect) (new : Editor) : Type 0 where
   pub makes : MakesSome (IsTimed old now event) old.draft new.draft
-  pub controls : IsAfterEvent old.controls (is_some old.name) new.draft.is_changed old.draft.area.document.cursor old.field event new.controls
+  pub controls : IsAfterEvent old.controls (is_some old.name) new.draft.is_changed old.draft.area.document.cursor old.field now event new.controls
   pub effect_is : IsEventEffect old.controls old.name new.draft.is_changed (is_selecting old.draft.area) old.field event effect
 
 -- memory ran out in the calls of an event, or after the first before the others were known: the

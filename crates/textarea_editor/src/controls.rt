@@ -1,5 +1,6 @@
 //! What decides what the next event does.
 
+use crate::click::Press;
 use crate::focus::Focus;
 use textarea_modal::Modal;
 
@@ -18,4 +19,6 @@ pub struct Controls {
     pub numbers: bool,
     /// Whether the program ends once the file is saved.
     pub ends_when_saved: bool,
+    /// The last press of the mouse's left button, if there was one.
+    pub pressed: Option<Press>,
 }

@@ -16,6 +16,7 @@ ghost use Rattle.tui_textarea.specs.Rendered.{IsDrawn};
 ghost use Rattle.textarea_editor.specs.Draft.{FailsIn, IsChangeMark, IsMarkAfter, IsMeasuredRows, IsSaved, IsSavedFrom, IsUndrawn, Makes, is_made, plain_calls};
 ghost use Rattle.textarea_text.specs.Text.{lines_of};
 
+pub mod clicking;
 pub mod moving;
 
 use std::alloc::{AllocError, Global};

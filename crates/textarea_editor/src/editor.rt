@@ -96,6 +96,7 @@ impl Editor {
                 wraps: true,
                 numbers: false,
                 ends_when_saved: false,
+                pressed: None,
             },
             message: Message::Nothing,
             columns,

@@ -83,6 +83,7 @@ fn push_text_keys(alloc: Global, lines: &mut Vec<String>) -> Result<(), AllocErr
         lines.push(row(alloc, line.names.as_str(), line.about)?)?;
     }
     lines.push(row(alloc, "mouse", "click moves, drag selects, wheel scrolls")?)?;
+    lines.push(row(alloc, "two, three clicks", "select the word, the line")?)?;
     Ok(())
 }
 

@@ -6,12 +6,14 @@
 #![tactic(auto)]
 
 pub mod arguments;
+pub mod click;
 mod control_characters;
 pub mod controls;
 pub mod disk;
 pub mod draft;
 pub mod editor;
 pub mod effect;
+mod extents;
 pub mod file_text;
 pub mod focus;
 pub mod help;

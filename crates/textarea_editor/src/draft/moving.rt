@@ -13,7 +13,7 @@ use textarea_screen::screen::Position;
 impl Draft {
     /// Moves the cursor to what a cell shows, if it shows a position, and selects up to there or
     /// drops the selection.
-    pub fn click(&mut self, cell: Position, selects: bool) -> Result<(), AllocError>
+    pub fn click_to(&mut self, cell: Position, selects: bool) -> Result<(), AllocError>
         ensures ok { OnOk result
             (MakesSome (IsClick selects (is_selecting self.old.area) (widget_of self.old.area)
             cell.x cell.y) self.old self.new) }

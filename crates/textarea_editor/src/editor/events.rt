@@ -32,19 +32,19 @@ impl Editor {
             self.new.draft.is_changed (is_selecting self.old.draft.area) self.old.field event.now) }
         ensures end { self.new.line_end ≡ self.old.line_end }
         ensures controls { OnOk result (IsAfterEvent self.old.controls (is_some self.old.name)
-            self.new.draft.is_changed self.old.draft.area.document.cursor self.old.field event.now
-            self.new.controls) }
+            self.new.draft.is_changed self.old.draft.area.document.cursor self.old.field now
+            event.now self.new.controls) }
         ensures kept { OnErr result (self.new.controls ≡ self.old.controls) }
     {
         self.draft.set_time(now);
-        self.take(event)
+        self.take(now, event)
     }
 
-    // Takes an event.
-    fn take(&mut self, event: &Event) -> Result<Effect, AllocError>
-        ensures ok { OnOk result (MakesSome (IsEvent self.old self.old.draft.area event.now)
+    // Takes an event that came at this time.
+    fn take(&mut self, now: Duration, event: &Event) -> Result<Effect, AllocError>
+        ensures ok { OnOk result (MakesSome (IsEvent self.old self.old.draft.area now event.now)
             self.old.draft self.new.draft) }
-        ensures err { OnErr result (FailsInSome (IsEvent self.old self.old.draft.area event.now)
+        ensures err { OnErr result (FailsInSome (IsEvent self.old self.old.draft.area now event.now)
             self.old.draft self.new.draft) }
         ensures carries { IfOk result
             (Carries (MayQuit self.old self.new.draft) self.new.draft.area self.new.line_end) }
@@ -52,8 +52,8 @@ impl Editor {
             self.new.draft.is_changed (is_selecting self.old.draft.area) self.old.field event.now) }
         ensures end { self.new.line_end ≡ self.old.line_end }
         ensures controls { OnOk result (IsAfterEvent self.old.controls (is_some self.old.name)
-            self.new.draft.is_changed self.old.draft.area.document.cursor self.old.field event.now
-            self.new.controls) }
+            self.new.draft.is_changed self.old.draft.area.document.cursor self.old.field now
+            event.now self.new.controls) }
         ensures kept { OnErr result (self.new.controls ≡ self.old.controls) }
     {
         match event {
@@ -68,7 +68,7 @@ impl Editor {
             }
             Event::Input(input) => self.take_input(&typed_input(input)),
             Event::Paste(text) => self.take_paste(text.as_str()),
-            Event::Mouse(mouse) => self.take_mouse(mouse),
+            Event::Mouse(mouse) => self.take_mouse(now, mouse),
             Event::FocusGained | Event::FocusLost | Event::Unknown => Ok(Effect::Nothing),
         }
     }

@@ -1,7 +1,7 @@
 use Rattle.std.proofs.lemmas.Result.{on_err_weaker, on_ok_weaker}
 use Rattle.textarea_editor.proofs.Clicks.{clicks_fail_first, clicks_fail_then, clicks_made, clicks_none}
 use Rattle.textarea_editor.proofs.Drafts.{on_err}
-use Rattle.textarea_editor.proofs.draft.Draft.click.Goals as goal
+use Rattle.textarea_editor.proofs.draft.Draft.click_to.Goals as goal
 
 pub returns-in_default-clause-ok : goal.returns-in_default-clause-ok
 returns-in_default-clause-ok c =
