@@ -1,5 +1,5 @@
 // Edits a file in a terminal that `bin/taedit` prepares:
-// taedit [--modal] [--no-final-newline] [+LINE[,COLUMN]] [--] [FILE]
+// taedit [--modal] [--no-final-newline] [--restore] [+LINE[,COLUMN]] [--] [FILE]
 #![tactic(auto)]
 
 use anyhow::{Result, bail};
@@ -9,7 +9,7 @@ use std::time::{Duration, Instant};
 use textarea_editor::message::Message;
 use textarea_editor::screen::Colors;
 use textarea_editor::terminal_colors::terminal_colors;
-use textarea_editor::{Arguments, Editor, Effect, Event, Screen, Storage};
+use textarea_editor::{Arguments, DiskFile, Editor, Effect, Event, Screen, Storage};
 use textarea_host::{SizeFile, Watch, size_in};
 
 // The alternate screen, reports of the mouse with its buttons down, in SGR's form, and bracketed
@@ -20,7 +20,9 @@ fn main(rt: HostRuntime) -> Result<()> {
     let words: Vec<String> = env::args(&rt)?.skip(1).collect(rt.alloc())?;
     match Arguments::read(words.as_slice()) {
         Some(arguments) => edit(&rt, arguments),
-        None => bail!("usage: taedit [--modal] [--no-final-newline] [+LINE[,COLUMN]] [--] [FILE]"),
+        None => bail!(
+            "usage: taedit [--modal] [--no-final-newline] [--restore] [+LINE[,COLUMN]] [--] [FILE]"
+        ),
     }
 }
 
@@ -59,8 +61,13 @@ fn edit_stored(
     arguments: Arguments<'_>,
     storage: &mut Storage,
 ) -> Result<()> {
-    if let Some(name) = arguments.name {
+    if arguments.reads_input {
+        open_input(rt, editor)?;
+    } else if let Some(name) = arguments.name {
         open(rt, editor, storage, name)?;
+    }
+    if arguments.restores {
+        storage.restore(editor);
     }
     if let Some(position) = arguments.position {
         editor.go_to(position)?;
@@ -91,6 +98,17 @@ fn open(rt: &HostRuntime, editor: &mut Editor, storage: &mut Storage, name: &str
     match storage.open(rt, editor, name)? {
         None => Ok(()),
         Some(trouble) => bail!("{name}: not opened: {}", trouble.text()),
+    }
+}
+
+// Opens the text of standard input, which `bin/taedit` has copied into a file. It has no name, and
+// counts as changed.
+fn open_input(rt: &HostRuntime, editor: &mut Editor) -> Result<()> {
+    let name = variable(rt, "TAEDIT_INPUT");
+    match DiskFile::default().read(rt, name.as_str()) {
+        Ok(Some(text)) => Ok(editor.recover(text)?),
+        Ok(None) => bail!("-: not opened: bin/taedit gives standard input to the program"),
+        Err(trouble) => bail!("-: not opened: {}", trouble.text()),
     }
 }
 

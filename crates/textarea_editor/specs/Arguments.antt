@@ -14,8 +14,10 @@ use Rattle.textarea_editor.specs.declared.arguments.Word.TheVariants as word
 pub record IsOption (text : List ℕ) (kind : Word) : Type 0 where
   pub modal : text ≡ codes "--modal" → kind ≡ word.Modal
   pub no_final_newline : text ≡ codes "--no-final-newline" → kind ≡ word.NoFinalNewline
+  pub restore : text ≡ codes "--restore" → kind ≡ word.Restore
+  pub input : text ≡ codes "-" → kind ≡ word.Input
   pub end : text ≡ codes "--" → kind ≡ word.End
-  pub other : text ≢ codes "--modal" → text ≢ codes "--no-final-newline" → text ≢ codes "--" → kind ≡ word.Unknown
+  pub other : text ≢ codes "--modal" → text ≢ codes "--no-final-newline" → text ≢ codes "--restore" → text ≢ codes "-" → text ≢ codes "--" → kind ≡ word.Unknown
 
 abbrev pub position_word : Option (ℕ × ℕ) → Word
 position_word (Some position) = word.Position position
@@ -54,11 +56,18 @@ IsNamed read [] found = found ≡ Some read
 IsNamed read (name ∷ []) found = IsWithName read name found
 IsNamed read names found = found ≡ None
 
+-- the words after the one for standard input: none
+abbrev pub IsInput : Arguments → List (String Global) → Option Arguments → Type 0
+IsInput read [] found = found ≡ Some (record read { reads_input = true })
+IsInput read words found = found ≡ None
+
 -- what follows a word of this kind; options may follow an option
 abbrev pub IsAfterWord : Word → Arguments → List (String Global) → List (String Global) → (Arguments → Type 0) → Option Arguments → Type 0
 IsAfterWord word.Modal read words rest Later found = Later (record read { is_modal = true })
 IsAfterWord word.NoFinalNewline read words rest Later found = Later (record read { closes_last = false })
+IsAfterWord word.Restore read words rest Later found = Later (record read { restores = true })
 IsAfterWord (word.Position position) read words rest Later found = Later (record read { position = Some position })
+IsAfterWord word.Input read words rest Later found = IsInput read rest found
 IsAfterWord word.End read words rest Later found = IsNamed read rest found
 IsAfterWord word.Name read words rest Later found = IsNamed read words found
 IsAfterWord word.Unknown read words rest Later found = found ≡ None
@@ -71,9 +80,9 @@ IsReadOn read (first ∷ rest) found =
     × IsAfterWord kind read (first ∷ rest) rest (λ more. IsReadOn more rest found) found
 
 -- without arguments: the keys of the text area, a line end after the last line of a new file, no
--- position and no name
+-- journal's text and no standard input, no position and no name
 abbrev pub nothing_read : Arguments
-nothing_read = record { is_modal = false; closes_last = true; position = None; name = None }
+nothing_read = record { is_modal = false; closes_last = true; restores = false; reads_input = false; position = None; name = None }
 
 abbrev pub IsRead : List (String Global) → Option Arguments → Type 0
 IsRead words found = IsReadOn nothing_read words found

@@ -1,18 +1,23 @@
 //! The arguments of the program.
 
 ghost use Rattle.std.specs.Prelude.{◌≡◌};
-ghost use Rattle.textarea_editor.specs.Arguments.{IsNamed, IsOption, IsRead, IsReadOn, IsWord, position_word};
+ghost use Rattle.textarea_editor.specs.Arguments.{IsInput, IsNamed, IsOption, IsRead, IsReadOn, IsWord, position_word};
 ghost use Rattle.textarea_editor.specs.Positions.{IsPosition, place_of_numbers};
 
 use crate::line_number::{line_number, row_of_line};
 
-/// What the arguments `[--modal] [--no-final-newline] [+LINE[,COLUMN]] [--] [FILE]` ask for.
+/// What the arguments `[--modal] [--no-final-newline] [--restore] [+LINE[,COLUMN]] [--] [FILE]`
+/// ask for, where FILE may be `-` for standard input.
 #[derive(Clone, Copy, Debug, PartialEq, Eq)]
 pub struct Arguments<'a> {
     /// Whether the keys are those of the modal editor.
     pub is_modal: bool,
     /// Whether the last line of a new file gets a line end when it is saved.
     pub closes_last: bool,
+    /// Whether the text of the file's journal is opened without a question.
+    pub restores: bool,
+    /// Whether the text is that of standard input.
+    pub reads_input: bool,
     /// The row and column of the cursor, counted from 0, if they are given.
     pub position: Option<(usize, usize)>,
     /// The name of the file, if there is one.
@@ -26,6 +31,10 @@ enum Word {
     Modal,
     // A new file's last line gets no line end.
     NoFinalNewline,
+    // The text of a journal is opened.
+    Restore,
+    // The text is that of standard input.
+    Input,
     // A position in the text.
     Position((usize, usize)),
     // The next word is a name.
@@ -38,7 +47,7 @@ enum Word {
 
 impl<'a> Arguments<'a> {
     /// Reads the arguments, or returns `None` if they are others. Options come first; after `--` a
-    /// name may begin with `-` or `+`.
+    /// name may begin with `-` or `+`, or be `-`.
     pub fn read(words: &'a [String]) -> Option<Arguments<'a>>
         ensures { IsRead words.now result }
     {
@@ -46,6 +55,8 @@ impl<'a> Arguments<'a> {
             Arguments {
                 is_modal: false,
                 closes_last: true,
+                restores: false,
+                reads_input: false,
                 position: None,
                 name: None,
             },
@@ -80,6 +91,15 @@ fn read_on<'a>(read: Arguments<'a>, words: &'a [String]) -> Option<Arguments<'a>
                 rest,
             )
         }
+        Word::Restore => {
+            read_on(
+                Arguments {
+                    restores: true,
+                    ..read
+                },
+                rest,
+            )
+        }
         Word::Position(position) => {
             read_on(
                 Arguments {
@@ -89,6 +109,7 @@ fn read_on<'a>(read: Arguments<'a>, words: &'a [String]) -> Option<Arguments<'a>
                 rest,
             )
         }
+        Word::Input => with_input(read, rest),
         Word::End => named(read, rest),
         Word::Name => named(read, words),
         Word::Unknown => None,
@@ -103,6 +124,19 @@ fn named<'a>(read: Arguments<'a>, names: &'a [String]) -> Option<Arguments<'a>>
         [] => Some(read),
         [name] => Some(Arguments {
             name: Some(name.as_str()),
+            ..read
+        }),
+        _ => None,
+    }
+}
+
+// Reads the arguments after the word for standard input: there are none.
+fn with_input<'a>(read: Arguments<'a>, rest: &'a [String]) -> Option<Arguments<'a>>
+    ensures { IsInput read.entry rest.now result }
+{
+    match rest {
+        [] => Some(Arguments {
+            reads_input: true,
             ..read
         }),
         _ => None,
@@ -129,6 +163,12 @@ fn option_of(word: &str) -> Word
     }
     if word == "--no-final-newline" {
         return Word::NoFinalNewline;
+    }
+    if word == "--restore" {
+        return Word::Restore;
+    }
+    if word == "-" {
+        return Word::Input;
     }
     if word == "--" {
         return Word::End;

@@ -75,6 +75,8 @@ pub enum Message {
     OpenElsewhere,
     /// No journal can be written, so that unsaved changes are lost if the program is killed.
     NoJournal,
+    /// There is no journal whose text could be opened.
+    NothingToRestore,
     /// The file was not saved. The text is as it was.
     NotSaved(Trouble),
     /// The searched text has no match.
@@ -97,6 +99,7 @@ impl Message {
             Message::Unsynced => ("saved, but the disk failed to make sure of it", ""),
             Message::OpenElsewhere => ("another editor has it open", ""),
             Message::NoJournal => ("no journal can be written", ""),
+            Message::NothingToRestore => ("no unsaved changes were found", ""),
             Message::NotSaved(trouble) => ("not saved: ", trouble.text()),
             Message::NoMatch => ("no match", ""),
             Message::NoLine => ("not a line number", ""),

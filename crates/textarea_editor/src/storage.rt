@@ -9,7 +9,9 @@ use std::alloc::AllocError;
 use std::fs::File;
 use std::io::ErrorKind;
 use std::time::Duration;
+use textarea_data::input::Input;
 use textarea_disk::{EventTimes, Journal, Recovery, recovered};
+use textarea_terminal::input::Event;
 
 /// The file of a text, and its journal.
 #[derive(Default, Drop)]
@@ -132,6 +134,19 @@ impl Storage {
             editor.show_message(Message::NoJournal);
         }
         Ok(())
+    }
+
+    /// Has the editor go on with the text that was offered, as the reply `y` to its question does. If
+    /// none was offered, the status row shows that.
+    pub fn restore(&mut self, editor: &mut Editor) {
+        if self.offered.is_some() {
+            let _ = editor.step(Duration::ZERO, &Event::Input(Input::from('y')));
+            if self.recover(editor).is_err() {
+                editor.show_message(Message::Memory);
+            }
+        } else if !self.is_off {
+            editor.show_message(Message::NothingToRestore);
+        }
     }
 
     /// Notes an event at this time, after which the editor's text may be another one.
