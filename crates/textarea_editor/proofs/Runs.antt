@@ -1,5 +1,5 @@
 -- The characters of one class around a column, found from the line's start on.
-use Rattle.std.proofs.Common.{◌≡◌, ◌≢◌, ◌∙◌, ◌⊎◌, ℕ, ◌+◌, ◌-◌, ◌<◌, ◌≤◌, List, length, absurd, ap, arith, inl, inr, refl, subst, sym}
+use Rattle.std.proofs.Common.{◌≡◌, ◌≢◌, ◌∙◌, ◌⊎◌, ℕ, ◌+◌, ◌-◌, ◌<◌, ◌≤◌, List, length, ap, arith, inl, inr, refl, subst, sym}
 use Rattle.textarea_editor.specs.Extents.{IsClassRun}
 use Rattle.textarea_text.specs.Words.{class_at}
 use Rattle.textarea_text.specs.declared.word.CharKind.{CharKind}

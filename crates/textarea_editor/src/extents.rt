@@ -72,9 +72,8 @@ fn run_at(line: &str, column: usize) -> Option<(usize, usize)>
         }
         count += 1;
     }
-    if column < count {
-        Some((first, count))
-    } else {
-        None
+    if count <= column {
+        return None;
     }
+    Some((first, count))
 }
