@@ -157,6 +157,17 @@ static void selection(void) {
     ta_free(&area);
 }
 
+static void read_only(void) {
+    ta_handle_t area = area_of("one");
+    CHECK(ta_read_only(&area) == TA_FALSE && ta_set_read_only(&area, true) == TA_OK);
+    CHECK(ta_insert_char(&area, 'x') == TA_OK && ta_delete_next_char(&area) == TA_FALSE);
+    CHECK(ta_insert_newline(&area) == TA_OK && ta_undo(&area) == TA_FALSE);
+    CHECK(ta_read_only(&area) == TA_OK && has_lines(&area, "one\n"));
+    CHECK(ta_set_read_only(&area, false) == TA_OK && ta_insert_char(&area, 'x') == TA_OK);
+    CHECK(has_lines(&area, "xone\n"));
+    ta_free(&area);
+}
+
 static void history(void) {
     ta_handle_t area = area_of("");
     size_t most = 0;
@@ -397,6 +408,7 @@ int main(void) {
     removals();
     moves();
     selection();
+    read_only();
     history();
     search();
     ranges();

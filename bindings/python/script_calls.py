@@ -40,6 +40,7 @@ SETTERS = {
     "set_undo_grouping": ("undo_grouping", "bool"),
     "set_tab_length": ("tab_length", "u8"),
     "set_hard_tab_indent": ("hard_tab_indent", "bool"),
+    "set_read_only": ("read_only", "bool"),
 }
 
 # The styles of a text area.

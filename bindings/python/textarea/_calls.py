@@ -212,6 +212,18 @@ class Calls(Core):
         self._call(lib.ta_set_undo_grouping, groups)
 
     @property
+    def read_only(self) -> bool:
+        """Whether the text area is read only. Then no call but `set_lines` changes the text: every
+        other call that edits, and an undo and a redo, changes nothing, neither what is yanked nor
+        the selection, and returns false, 0 or nothing. But `cut` does what `copy` does, and returns
+        whether a text was selected. Off at first."""
+        return self._call(lib.ta_read_only)
+
+    @read_only.setter
+    def read_only(self, read_only: bool) -> None:
+        self._call(lib.ta_set_read_only, read_only)
+
+    @property
     def tab_length(self) -> int:
         """The distance of tab stops, in columns; at 0 a tab inserts nothing."""
         return self._numbers(ctypes.c_uint8, 1, lib.ta_tab_length)[0]

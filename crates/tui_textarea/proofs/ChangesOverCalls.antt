@@ -116,7 +116,7 @@ module _ (laws : TheLaws) where
   }
 
   past : Past Logs
-  past = record { undos = laws.undone; redos = laws.redone }
+  past = record { undos = laws.undone; redos = laws.redone; stays = λ document. stays document document refl }
 
   -- any call but the two of the log
   leads : (old new : State) (made : Call) (returned : CallResult) → (¬ SetsLog made) → (¬ Takes made) → IsSound old.document → IsAfterCall old made returned new → ChangesLead old.document new.document

@@ -11,9 +11,11 @@ use Rattle.textarea_document.specs.Selection.{is_selected, selected, selection_e
 use Rattle.tui_textarea.specs.State.{State, with_document}
 use Rattle.tui_textarea.specs.Edits.{symbols_or_none_inserted, str_inserted}
 use Rattle.tui_textarea.specs.Grouping.{call_begun, call_ended}
+use Rattle.tui_textarea.specs.Guards.{is_editable, unless_read_only}
 use Rattle.tui_textarea.specs.TextAreaLaw.{PastesCopy, copied_and_pasted}
 use Rattle.tui_textarea.specs.Selection.{selection_copied, selection_cancelled}
 use Rattle.std.proofs.Math.Bool.{and-false}
+use Rattle.std.proofs.lemmas.Bool.{cond-false, not-true}
 use Rattle.textarea_document.proofs.Betweens.{between_some}
 
 not_less : (n : ℕ) → nat_lt n n ≡ false
@@ -35,15 +37,15 @@ filled : (symbols : List Symbol) → 0 < length symbols → has_symbols symbols 
 filled [] h = absurd (omega (arith, h))
 filled (symbol ∷ symbols) h = refl
 
-pub pastes_copy : (state : State) → is_selected state.document ≡ true
+pub pastes_copy : (state : State) → is_editable state ≡ true → is_selected state.document ≡ true
     → IsPlace state.document.text (selection_end state.document)
     → index_of state.document.text (selection_start state.document) < index_of state.document.text (selection_end state.document)
     → PastesCopy state
-pastes_copy state e place ordered =
+pastes_copy state editable e place ordered =
     record {
       text = ap (λ (s : State). s.document.text) reached ∙ text_of (selected state.document) some;
       cursor = ap (λ (s : State). s.document.cursor) reached ∙ cursor_of (selected state.document) some;
-      returned = ap (λ (s : State). has_symbols s.yank) copied_is ∙ filled (selected state.document) some;
+      returned = ap (λ (s : State). is_editable s && has_symbols s.yank) copied_is ∙ ap (λ b. b && has_symbols (selected state.document)) editable ∙ filled (selected state.document) some;
     }
   where
     after : State
@@ -57,7 +59,8 @@ pastes_copy state e place ordered =
 
     reached : copied_and_pasted state ≡ call_ended after (symbols_or_none_inserted begun (selected state.document))
     reached =
-        ap (λ (s : State). str_inserted s s.yank) copied_is
+        ap (λ (s : State). unless_read_only s (str_inserted s s.yank)) copied_is
+        ∙ cond-false state.settings.read_only after (str_inserted after after.yank) (not-true state.settings.read_only editable)
         ∙ ap (λ b. call_ended after (symbols_or_none_inserted (with_document begun (cond b (between_removed begun.document (selection_start begun.document) (selection_end begun.document) begun.time) begun.document)) after.yank))
         (none_selected state.document)
 

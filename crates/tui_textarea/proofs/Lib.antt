@@ -42,6 +42,8 @@ mod Replacing
 mod RangesOverActions
 mod Lifted
 mod Unedited
+mod ReadOnly
+mod Guarded
 mod Unselected
 mod CursorLine
 pub mod CallWraps

@@ -52,4 +52,4 @@ ranges_stay_in_drawing old new area h =
 -- ---- calls
 
 pub past_follows : UndosGo → RedosGo → Past RangesFollowSplices
-past_follows undos redos = record { undos = undos; redos = redos }
+past_follows undos redos = record { undos = undos; redos = redos; stays = λ document. (stays document document refl refl).0 }

@@ -6,13 +6,12 @@ use Rattle.textarea_data.specs.declared.range.AtomicRange.{AtomicRange}
 use Rattle.textarea_data.specs.declared.range.RejectedAtomicRange.{RejectedAtomicRange}
 use Rattle.textarea_text.specs.Splice.{CanApply, Splice}
 use Rattle.textarea_document.specs.RangesOverSplices.{SplitNoRange, RangesFollowSplices, RangesStayWhole}
-use Rattle.textarea_document.specs.Outcomes.{after_redo, after_undo}
 use Rattle.textarea_document.specs.Sound.{IsSound}
 use Rattle.textarea_document.specs.DocumentState.{DocumentState}
 use Rattle.textarea_document.proofs.RangesOverSplices.{stays}
 use Rattle.tui_textarea.specs.RangesOverActions.{RangesFollowAction}
 use Rattle.tui_textarea.specs.Input.{IsAfterAction, asked_by, asked_without_shortcuts, call_of_action, state_after_any}
-use Rattle.tui_textarea.specs.State.{State, with_document}
+use Rattle.tui_textarea.specs.State.{State}
 use Rattle.tui_textarea.specs.Calls.{state_after, ranges_result, rejected_ranges, with_ranges_if}
 use Rattle.tui_textarea.specs.RangesOverCalls.{RangesFollowCall, IsUndoOrRedo, IsUndoOrRedoAct}
 use Rattle.tui_textarea.specs.Outcomes.{IsResultOf, IsAfterCall, IsAfterOutOfMemory}
@@ -93,8 +92,8 @@ module _ (laws : TheLaws) where
       follows_by_action asked old.document new.document _ (acts_by RangesStayWhole RangesFollowSplices (reckoning_of laws.edited) (past_follows laws.undone laws.redone) old new asked h k)
 
   act_fits : (state : State) (asked : Action) → IsSound state.document → Fitting state (IsUndoOrRedoAct asked) (splices_by state asked)
-  act_fits state action.Undo h = ((inputs_go state (with_document state (after_undo state.document)) action.Undo h refl).text.can, λ no. absurd (no tt))
-  act_fits state action.Redo h = ((inputs_go state (with_document state (after_redo state.document)) action.Redo h refl).text.can, λ no. absurd (no tt))
+  act_fits state action.Undo h = ((inputs_go state (state_after state call.Undo) action.Undo h refl).text.can, λ no. absurd (no tt))
+  act_fits state action.Redo h = ((inputs_go state (state_after state call.Redo) action.Redo h refl).text.can, λ no. absurd (no tt))
   act_fits state (action.MoveWithShift cursor_move shift) h = (tt, λ no. tt)
   act_fits state (action.ScrollWithShift scrolling shift) h = (tt, λ no. tt)
   act_fits state (action.Scroll scrolling) h = (tt, λ no. tt)

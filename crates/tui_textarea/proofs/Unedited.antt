@@ -28,10 +28,10 @@ use Rattle.tui_textarea.specs.Selection.{selection_cancelled, selection_copied}
 use Rattle.tui_textarea.specs.State.{State}
 
 -- the two states have the same text
-abbrev SameText : State → State → Type 0
+abbrev pub SameText : State → State → Type 0
 SameText old new = new.document.text ≡ old.document.text
 
-abbrev text : State → List Symbol
+abbrev pub text : State → List Symbol
 text state = state.document.text
 
 moved : (old : State) (shift : Bool) (found : Option Place) → SameText old (after_move_by old shift found)
@@ -46,7 +46,7 @@ searched : (old : State) (found : Option Place) → SameText old (after_search o
 searched old None = refl
 searched old (Some place) = refl
 
-copied : (old : State) → SameText old (selection_copied old)
+pub copied : (old : State) → SameText old (selection_copied old)
 copied old = by_flag old (is_selected old.document)
   where
     by_flag : (old : State) (some : Bool) → SameText old (if some then record (selection_cancelled old) { yank = selected old.document } else selection_cancelled old)

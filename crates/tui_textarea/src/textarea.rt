@@ -4,6 +4,7 @@ mod changes;
 mod constructors;
 mod edits;
 mod grouping;
+mod guards;
 mod indenting;
 mod input;
 pub(crate) mod laws;

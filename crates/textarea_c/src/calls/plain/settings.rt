@@ -37,6 +37,23 @@ pub extern "C" fn ta_set_hard_tab_indent(handle: &mut Handle, alloc: Global, har
     })
 }
 
+/// Sets whether the text area is read only. Then no call but `ta_set_lines` changes the text: every
+/// other call that edits, and an undo and a redo, changes nothing, neither what is yanked nor the
+/// selection, and returns false, 0 or nothing. But `ta_cut` does what `ta_copy` does, and returns
+/// whether a text was selected. Off at first.
+///
+/// Statuses: ok, empty handle.
+#[unsafe(no_mangle)]
+pub extern "C" fn ta_set_read_only(handle: &mut Handle, alloc: Global, read_only: bool) -> u32
+    ensures { Calls handle.old.stored.content result handle.new.stored.content
+        (λ a b. MakesSetting (call.SetReadOnly read_only) result a b) }
+{
+    on!(handle, alloc, editor => {
+        editor.area.set_read_only(read_only);
+        OK
+    })
+}
+
 /// Hides the line numbers.
 ///
 /// Statuses: ok, out of memory, empty handle.
@@ -76,6 +93,17 @@ pub extern "C" fn ta_set_max_rows(handle: &mut Handle, alloc: Global, rows: u16)
         editor.area.set_max_rows(rows);
         OK
     })
+}
+
+/// Returns whether the text area is read only.
+///
+/// Statuses: ok (true), false, empty handle.
+#[unsafe(no_mangle)]
+pub extern "C" fn ta_read_only(handle: &mut Handle, alloc: Global) -> u32
+    ensures { Calls handle.old.stored.content result handle.new.stored.content
+        (λ a b. Answers (flag_of (result_of_call a.area call.ReadOnly)) result a b) }
+{
+    on!(handle, alloc, editor => truth(editor.area.read_only()))
 }
 
 /// Returns the distance of tab stops, in columns.

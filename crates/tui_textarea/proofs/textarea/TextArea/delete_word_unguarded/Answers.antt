@@ -3,7 +3,7 @@ use Rattle.std.proofs.lemmas.Bool.{false≢true}
 use Rattle.textarea_data.specs.declared.range.AtomicDeleteDirection.TheVariants.{Backward}
 use Rattle.tui_textarea.specs.Removals.{has_line_before}
 use Rattle.tui_textarea.proofs.Unselected.{answered_unhit, range_removes, none_at_place}
-use Rattle.tui_textarea.proofs.textarea.TextArea.delete_word.Goals as goal
+use Rattle.tui_textarea.proofs.textarea.TextArea.delete_word_unguarded.Goals as goal
 
 pub returns-then-is_some-clause-removed : goal.returns-then-is_some-clause-removed
 returns-then-is_some-clause-removed c =

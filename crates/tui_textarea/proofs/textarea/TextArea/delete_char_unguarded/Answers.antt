@@ -2,7 +2,7 @@ use Rattle.std.proofs.Common.{◌∙◌, sym}
 use Rattle.textarea_document.specs.Edits.{removed_before}
 use Rattle.tui_textarea.specs.State.{State}
 use Rattle.tui_textarea.proofs.Unselected.{made_unselected}
-use Rattle.tui_textarea.proofs.textarea.TextArea.delete_char.Goals as goal
+use Rattle.tui_textarea.proofs.textarea.TextArea.delete_char_unguarded.Goals as goal
 
 pub returns-clause-ok : goal.returns-clause-ok
 returns-clause-ok c =

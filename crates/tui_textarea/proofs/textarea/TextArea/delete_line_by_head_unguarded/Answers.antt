@@ -7,7 +7,7 @@ use Rattle.tui_textarea.specs.Selection.{unselected}
 use Rattle.tui_textarea.specs.State.{State}
 use Rattle.tui_textarea.proofs.CursorLine.{cursor_read}
 use Rattle.tui_textarea.proofs.Unselected.{none_gone}
-use Rattle.tui_textarea.proofs.textarea.TextArea.delete_line_by_head.Goals as goal
+use Rattle.tui_textarea.proofs.textarea.TextArea.delete_line_by_head_unguarded.Goals as goal
 
 pub remove_and_yank-requires-clause-ordered : goal.remove_and_yank-requires-clause-ordered
 remove_and_yank-requires-clause-ordered c = omega (arith, c.if-cursor-eq0.false)

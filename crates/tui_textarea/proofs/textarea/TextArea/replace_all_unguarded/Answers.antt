@@ -5,7 +5,7 @@ use Rattle.std.proofs.lemmas.List.{nil_from_length}
 use Rattle.textarea_text.specs.Fragment.{fragment_symbols}
 use Rattle.tui_textarea.specs.Replacing.{replaceable}
 use Rattle.tui_textarea.proofs.Replacing.{nothing_replaced}
-use Rattle.tui_textarea.proofs.textarea.TextArea.replace_all.Goals as goal
+use Rattle.tui_textarea.proofs.textarea.TextArea.replace_all_unguarded.Goals as goal
 
 pub returns-then-is_empty-clause-ok : goal.returns-then-is_empty-clause-ok
 returns-then-is_empty-clause-ok c =

@@ -3,7 +3,7 @@ use Rattle.textarea_text.specs.Text.{text_of}
 use Rattle.tui_textarea.specs.Edits.{str_inserted}
 use Rattle.tui_textarea.specs.State.{State}
 use Rattle.tui_textarea.proofs.Filled.{none_unless}
-use Rattle.tui_textarea.proofs.textarea.TextArea.paste.Goals as goal
+use Rattle.tui_textarea.proofs.textarea.TextArea.paste_unguarded.Goals as goal
 
 pub returns-then-not-has_symbol-clause-ok : goal.returns-then-not-has_symbol-clause-ok
 returns-then-not-has_symbol-clause-ok c =

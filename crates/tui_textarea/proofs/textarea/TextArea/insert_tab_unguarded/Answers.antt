@@ -9,7 +9,7 @@ use Rattle.tui_textarea.specs.LayoutCalls.{tab_length}
 use Rattle.tui_textarea.specs.Selection.{unselected}
 use Rattle.tui_textarea.specs.State.{State}
 use Rattle.tui_textarea.proofs.Grouping.{ended_err, ended_ok, tab_none}
-use Rattle.tui_textarea.proofs.textarea.TextArea.insert_tab.Goals as goal
+use Rattle.tui_textarea.proofs.textarea.TextArea.insert_tab_unguarded.Goals as goal
 
 -- with a tab length above 0 a tab is inserted
 inserts : {view state : State} → view ≡ state → (settings : LayoutSettings) → settings ≡ view.document.layout.settings → settings.tab_len ≢ 0 → true ≡ inserts_tab state

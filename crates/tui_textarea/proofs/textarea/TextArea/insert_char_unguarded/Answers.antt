@@ -2,7 +2,7 @@ use Rattle.tui_textarea.specs.Edits.{char_or_break_inserted}
 use Rattle.tui_textarea.specs.Selection.{unselected}
 use Rattle.tui_textarea.specs.State.{State}
 use Rattle.tui_textarea.proofs.Grouping.{ended_err, ended_ok}
-use Rattle.tui_textarea.proofs.textarea.TextArea.insert_char.Goals as goal
+use Rattle.tui_textarea.proofs.textarea.TextArea.insert_char_unguarded.Goals as goal
 
 pub returns-clause-ok : goal.returns-clause-ok
 returns-clause-ok c =

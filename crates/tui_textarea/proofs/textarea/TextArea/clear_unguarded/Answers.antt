@@ -6,7 +6,7 @@ use Rattle.textarea_text.specs.Text.{text_of}
 use Rattle.tui_textarea.specs.Removals.{yanked}
 use Rattle.tui_textarea.specs.State.{State}
 use Rattle.tui_textarea.proofs.Filled.{filled_unless}
-use Rattle.tui_textarea.proofs.textarea.TextArea.clear.Goals as goal
+use Rattle.tui_textarea.proofs.textarea.TextArea.clear_unguarded.Goals as goal
 
 pub returns-clause-removed : goal.returns-clause-removed
 returns-clause-removed c =

@@ -3,7 +3,7 @@ use Rattle.textarea_document.specs.Edits.{break_removed}
 use Rattle.tui_textarea.specs.Removals.{has_break_before}
 use Rattle.tui_textarea.specs.State.{State}
 use Rattle.tui_textarea.proofs.Unselected.{answered_unselected, made_unselected}
-use Rattle.tui_textarea.proofs.textarea.TextArea.delete_newline.Goals as goal
+use Rattle.tui_textarea.proofs.textarea.TextArea.delete_newline_unguarded.Goals as goal
 
 pub returns-clause-removed : goal.returns-clause-removed
 returns-clause-removed c =

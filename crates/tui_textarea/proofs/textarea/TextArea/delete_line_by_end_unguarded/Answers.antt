@@ -3,7 +3,7 @@ use Rattle.std.proofs.lemmas.Bool.{true≢false}
 use Rattle.textarea_text.specs.Text.{lines_of}
 use Rattle.tui_textarea.proofs.CursorLine.{answered_at_end, end_after, line_removes_unselected}
 use Rattle.tui_textarea.proofs.Unselected.{selected_gone}
-use Rattle.tui_textarea.proofs.textarea.TextArea.delete_line_by_end.Goals as goal
+use Rattle.tui_textarea.proofs.textarea.TextArea.delete_line_by_end_unguarded.Goals as goal
 
 pub returns-then-branch-clause-ok : goal.returns-then-branch-clause-ok
 returns-then-branch-clause-ok c =
