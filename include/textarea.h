@@ -972,6 +972,14 @@ uint32_t ta_set_hard_tab_indent(ta_handle_t *handle, bool hard);
  * Statuses: ok, empty handle. */
 uint32_t ta_set_read_only(ta_handle_t *handle, bool read_only);
 
+/** Sets whether the text is kept in a single line, and returns whether it could be set: a text of
+ * several lines can't be. Then a line break that is typed, and `ta_duplicate_line`, do nothing,
+ * breaks of a text that is inserted or pasted become spaces, and `ta_set_lines` of several lines
+ * does nothing. Setting it forgets all edits. Off at first.
+ *
+ * Statuses: ok (true), false, empty handle. */
+uint32_t ta_set_single_line(ta_handle_t *handle, bool single_line);
+
 /** Hides the line numbers.
  *
  * Statuses: ok, out of memory, empty handle. */
@@ -993,6 +1001,11 @@ uint32_t ta_set_max_rows(ta_handle_t *handle, uint16_t rows);
  *
  * Statuses: ok (true), false, empty handle. */
 uint32_t ta_read_only(ta_handle_t *handle);
+
+/** Returns whether the text is kept in a single line.
+ *
+ * Statuses: ok (true), false, empty handle. */
+uint32_t ta_single_line(ta_handle_t *handle);
 
 /** Returns the distance of tab stops, in columns.
  *

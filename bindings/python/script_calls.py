@@ -41,6 +41,7 @@ SETTERS = {
     "set_tab_length": ("tab_length", "u8"),
     "set_hard_tab_indent": ("hard_tab_indent", "bool"),
     "set_read_only": ("read_only", "bool"),
+    "set_single_line": ("single_line", "bool"),
 }
 
 # The styles of a text area.

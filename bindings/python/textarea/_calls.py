@@ -224,6 +224,18 @@ class Calls(Core):
         self._call(lib.ta_set_read_only, read_only)
 
     @property
+    def single_line(self) -> bool:
+        """Whether the text is kept in a single line, and returns whether it could be set: a text of
+        several lines can't be. Then a line break that is typed, and `duplicate_line`, do nothing,
+        breaks of a text that is inserted or pasted become spaces, and `set_lines` of several lines
+        does nothing. Setting it forgets all edits. Off at first."""
+        return self._call(lib.ta_single_line)
+
+    @single_line.setter
+    def single_line(self, single_line: bool) -> None:
+        self._call(lib.ta_set_single_line, single_line)
+
+    @property
     def tab_length(self) -> int:
         """The distance of tab stops, in columns; at 0 a tab inserts nothing."""
         return self._numbers(ctypes.c_uint8, 1, lib.ta_tab_length)[0]

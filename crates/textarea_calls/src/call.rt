@@ -144,6 +144,8 @@ pub enum Call<'a> {
     SetHardTabIndent(bool),
     /// `TextArea::set_read_only`
     SetReadOnly(bool),
+    /// `TextArea::set_single_line`
+    SetSingleLine(bool),
     /// `TextArea::set_wrap_mode`
     SetWrapMode(WrapMode),
     /// `TextArea::set_line_number_style`
@@ -232,6 +234,8 @@ pub enum Call<'a> {
     UndoGrouping,
     /// `TextArea::read_only`
     ReadOnly,
+    /// `TextArea::single_line`
+    SingleLine,
     /// `TextArea::tab_length`
     TabLength,
     /// `TextArea::hard_tab_indent`

@@ -257,6 +257,9 @@ pub(crate) fn options_call(area: &mut TextArea<'_>, call: OptionsCall) -> Result
             area.set_read_only(read_only);
             Ok(Answer::Done)
         }
+        OptionsCall::SetSingleLine(single_line) => {
+            Ok(Answer::Flag(area.set_single_line(single_line)))
+        }
         OptionsCall::SetWrapMode(mode) => area.set_wrap_mode(mode).map(|()| Answer::Done),
         OptionsCall::SetLineNumberStyle(style) => area
             .set_line_number_style(style)
@@ -391,6 +394,7 @@ pub(crate) fn read_call(area: &mut TextArea<'_>, call: ReadCall) -> Result<Answe
         ReadCall::UndoCoalescing => Ok(Answer::Flag(area.undo_coalescing())),
         ReadCall::UndoGrouping => Ok(Answer::Flag(area.undo_grouping())),
         ReadCall::ReadOnly => Ok(Answer::Flag(area.read_only())),
+        ReadCall::SingleLine => Ok(Answer::Flag(area.single_line())),
         ReadCall::TabLength => Ok(Answer::Number(area.tab_length() as usize)),
         ReadCall::HardTabIndent => Ok(Answer::Flag(area.hard_tab_indent())),
         ReadCall::WrapMode => Ok(Answer::WrapMode(area.wrap_mode())),

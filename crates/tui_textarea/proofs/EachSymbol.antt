@@ -54,9 +54,9 @@ only-if : (P : Symbol → Type 0) (b : Bool) (xs ys : List Splice) → InsertOnl
 only-if P true xs ys h k = h
 only-if P false xs ys h k = k
 
--- without any in a text area that is read only
-pub only_unless_read_only : (P : Symbol → Type 0) (state : State) (splices : List Splice) → InsertOnly P splices → InsertOnly P (cond state.settings.read_only [] splices)
-only_unless_read_only P state splices h = only-if P state.settings.read_only [] splices tt h
+-- without any where a guard leaves the call out
+pub only_unless : (P : Symbol → Type 0) (barred : Bool) (splices : List Splice) → InsertOnly P splices → InsertOnly P (cond barred [] splices)
+only_unless P barred splices h = only-if P barred [] splices tt h
 
 removes : (P : Symbol → Type 0) (splice : Splice) → splice.inserts ≡ false → InsertOnly P (splice ∷ [])
 removes P splice is = ((λ inserts. let no : false ≡ true = sym is ∙ inserts in cc), tt)

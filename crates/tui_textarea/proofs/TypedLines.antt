@@ -1,6 +1,6 @@
 -- A text of one line with the cursor after it, over the calls that type a character, remove the last
 -- one, and clear the text.
-use Rattle.std.proofs.Common.{◌≡◌, ◌∙◌, ℕ, zero, suc, ◌+◌, ◌-◌, ◌≤◌, Bool, true, false, cond, List, [], ◌∷◌, ◌++◌, length, take, drop, Option, None, inl, inr, refl, subst, sym, ap, arith, take_all, ⊎_elim}
+use Rattle.std.proofs.Common.{◌≡◌, ◌∙◌, ℕ, zero, suc, ◌+◌, ◌-◌, ◌≤◌, ◌&&◌, ◌||◌, Bool, true, false, cond, List, [], ◌∷◌, ◌++◌, length, take, drop, Option, None, inl, inr, refl, subst, sym, ap, arith, take_all, ⊎_elim}
 use Rattle.std.proofs.lemmas.Bool.{cond-false}
 use Rattle.std.proofs.lemmas.Bool.Decides.{nat_tests}
 use Rattle.std.proofs.lemmas.List.{append-nil, drop_all, length-drop, length-take-le, length_push}
@@ -16,7 +16,7 @@ use Rattle.textarea_document.specs.Outcomes.{unanchored}
 use Rattle.textarea_document.specs.Selection.{is_selected}
 use Rattle.tui_textarea.specs.Edits.{breaks_line, char_inserted, char_or_break_inserted, line_broken, typed_character_inserted}
 use Rattle.tui_textarea.specs.Grouping.{call_begun, call_ended}
-use Rattle.tui_textarea.specs.Guards.{unless_read_only}
+use Rattle.tui_textarea.specs.Guards.{bars_character, unless_read_only}
 use Rattle.tui_textarea.specs.Removals.{symbol_before_removed, text_cleared, unselected_or, yanked}
 use Rattle.tui_textarea.specs.Selection.{IsInsertOutOfMemory, unselected}
 use Rattle.tui_textarea.specs.State.{State, with_document}
@@ -223,11 +223,11 @@ either : (state : State) (b : Bool) (x y : State) → x.settings ≡ state.setti
 either state true x y h k = h
 either state false x y h k = k
 
-pub character_typed : (state new : State) (typed : List ℕ) (c : ℕ) → IsTypedLine state typed → breaks_line c ≡ false → new ≡ unless_read_only state (char_inserted state c)
+pub character_typed : (state new : State) (typed : List ℕ) (c : ℕ) → IsTypedLine state typed → breaks_line c ≡ false → new ≡ cond (bars_character state c) state (char_inserted state c)
     → IsTypedLine new (typed ++ c ∷ [])
 character_typed state new typed c h breaks is =
     let left = unselected (call_begun state) in
-    holds state new (char_inserted state c) typed (typed ++ c ∷ []) h is (either state (breaks_line c) (line_broken left) (typed_character_inserted left c) refl refl)
+    holds state new (char_inserted state c) typed (typed ++ c ∷ []) h (is ∙ ap (λ (b : Bool). cond (b && state.settings.single_line || state.settings.read_only) state (char_inserted state c)) breaks) (either state (breaks_line c) (line_broken left) (typed_character_inserted left c) refl refl)
     (λ made. line_typed state new typed c (line_of state typed h) breaks made)
 
 pub text_sent : (state new : State) (typed : List ℕ) → IsTypedLine state typed → new ≡ unless_read_only state (text_cleared state) → IsTypedLine new []

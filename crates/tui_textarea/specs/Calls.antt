@@ -24,7 +24,7 @@ use Rattle.textarea_document.specs.Splices.{after_splices, before_splices, break
 use Rattle.tui_textarea.specs.State.{State, with_change_log, with_changes_taken, with_document, with_other_lines}
 use Rattle.tui_textarea.specs.Splices.{ahead_splices, char_splices, clear_splices, line_end_splices, line_head_splices, selected_splices_or, str_splices, tab_splices, word_after_splices, word_before_splices}
 use Rattle.tui_textarea.specs.Edits.{inserts_tab, inserts_text, char_inserted, newline_inserted, tab_inserted, str_inserted}
-use Rattle.tui_textarea.specs.Guards.{barred_after, is_barred, is_editable, removable_range}
+use Rattle.tui_textarea.specs.Guards.{admitted, barred_after, bars_break, bars_character, bars_lines, has_several_lines, is_barred, is_editable, removable_range, single_line_set}
 use Rattle.tui_textarea.specs.Grouping.{typing_ended, undo_group_begun, undo_group_ended}
 use Rattle.tui_textarea.specs.Removals.{break_before_removed, text_cleared, has_ahead, has_before, has_after, has_break_before, has_line_before, has_line_after, has_word_before}
 use Rattle.tui_textarea.specs.Removals.{has_word_after, line_end_removed, line_head_removed, removes_or, symbol_before_removed, symbol_after_removed, symbols_ahead_removed}
@@ -72,7 +72,7 @@ result_of_call state call.IndentLines = Flag (is_editable state && shifts_lines 
 result_of_call state call.OutdentLines = Flag (is_editable state && shifts_lines state.document true)
 result_of_call state call.MoveLinesUp = Flag (is_editable state && has_line_above state.document)
 result_of_call state call.MoveLinesDown = Flag (is_editable state && has_line_below state.document)
-result_of_call state (call.ReplaceRange from to text) = Flag (is_editable state && replaces state.document.text from to (fragment_symbols (chars text.now)))
+result_of_call state (call.ReplaceRange from to text) = Flag (is_editable state && replaces state.document.text from to (admitted state (fragment_symbols (chars text.now))))
 result_of_call state (call.ReplaceMatch text) = Flag (is_editable state && is_some (match_at_cursor state))
 result_of_call state (call.ReplaceAll text) = reported.Number (if state.settings.read_only then 0 else length (replaceable state))
 result_of_call state call.InsertTab = Flag (is_editable state && inserts_tab state)
@@ -123,6 +123,8 @@ result_of_call state call.MaxHistories = reported.Number state.document.log.maxi
 result_of_call state call.UndoCoalescing = Flag state.settings.undo_coalescing
 result_of_call state call.UndoGrouping = Flag state.settings.undo_grouping
 result_of_call state call.ReadOnly = Flag state.settings.read_only
+result_of_call state (call.SetSingleLine single_line) = Flag (not (single_line && has_several_lines state))
+result_of_call state call.SingleLine = Flag state.settings.single_line
 result_of_call state call.WrapMode = reported.WrapMode state.document.layout.settings.mode
 result_of_call state call.LineNumberStyle = reported.StyleIfVisible (number_style state)
 result_of_call state call.PlaceholderStyle = reported.StyleIfVisible (style_with_lines state.surround.placeholder.lines state.surround.placeholder.style)
@@ -136,12 +138,12 @@ abbrev pub with_lines : {Z : Type 0} → State → List (String Z) → Place →
 with_lines state lines cursor =
     with_other_lines state (lines_replaced state.document (lines_of lines) cursor)
 
--- the state after the call in a text area that isn't read only; after one that sets a pattern, if
+-- the state after a call that no guard leaves out; after one that sets a pattern, if
 -- the pattern is accepted. The states after moves, scrolls, inputs and drawings are defined elsewhere
 abbrev pub unguarded_after : State → Call → State
 unguarded_after state (call.InsertChar c) = char_inserted state c
-unguarded_after state (call.InsertStr text) = str_inserted state (fragment_symbols (chars text.now))
-unguarded_after state (call.InsertPasted text) = str_inserted state (pasted_symbols (chars text.now))
+unguarded_after state (call.InsertStr text) = str_inserted state (admitted state (fragment_symbols (chars text.now)))
+unguarded_after state (call.InsertPasted text) = str_inserted state (admitted state (pasted_symbols (chars text.now)))
 unguarded_after state call.InsertTab = tab_inserted state
 unguarded_after state call.InsertNewline = newline_inserted state
 unguarded_after state call.DuplicateLine = with_document state (lines_duplicated state.document state.time)
@@ -149,9 +151,9 @@ unguarded_after state call.IndentLines = with_document state (lines_indented sta
 unguarded_after state call.OutdentLines = with_document state (lines_outdented state.document state.time)
 unguarded_after state call.MoveLinesUp = with_document state (lines_moved_up state.document state.time)
 unguarded_after state call.MoveLinesDown = with_document state (lines_moved_down state.document state.time)
-unguarded_after state (call.ReplaceRange from to text) = with_range_replaced state from to (fragment_symbols (chars text.now))
-unguarded_after state (call.ReplaceMatch text) = match_replaced state (fragment_symbols (chars text.now))
-unguarded_after state (call.ReplaceAll text) = matches_replaced state (fragment_symbols (chars text.now))
+unguarded_after state (call.ReplaceRange from to text) = with_range_replaced state from to (admitted state (fragment_symbols (chars text.now)))
+unguarded_after state (call.ReplaceMatch text) = match_replaced state (admitted state (fragment_symbols (chars text.now)))
+unguarded_after state (call.ReplaceAll text) = matches_replaced state (admitted state (fragment_symbols (chars text.now)))
 unguarded_after state (call.DeleteStr count) = unselected_or state (symbols_ahead_removed state count)
 unguarded_after state call.DeleteNewline = unselected_or state (break_before_removed state)
 unguarded_after state call.DeleteChar = unselected_or state (symbol_before_removed state)
@@ -163,7 +165,7 @@ unguarded_after state call.DeleteNextWord = unselected_or state (word_after_remo
 unguarded_after state call.Clear = text_cleared state
 unguarded_after state call.Cut = selection_cut state
 unguarded_after state call.Copy = selection_copied state
-unguarded_after state call.Paste = str_inserted state state.yank
+unguarded_after state call.Paste = str_inserted state (admitted state state.yank)
 unguarded_after state call.Undo = with_document state (after_undo state.document)
 unguarded_after state call.Redo = with_document state (after_redo state.document)
 unguarded_after state (call.SetChangeLog unit) = with_change_log state unit
@@ -201,6 +203,7 @@ unguarded_after state (call.SetUndoCoalescing joins) =
     record state { document = record state.document { log = run_ended state.document.log }; settings = record state.settings { undo_coalescing = joins } }
 unguarded_after state (call.SetUndoGrouping groups) = record state { settings = record state.settings { undo_grouping = groups } }
 unguarded_after state (call.SetReadOnly read_only) = record state { settings = record state.settings { read_only = read_only } }
+unguarded_after state (call.SetSingleLine single_line) = single_line_set state single_line
 unguarded_after state call.BeginUndoGroup = undo_group_begun state
 unguarded_after state call.EndUndoGroup = undo_group_ended state
 unguarded_after state call.EndRun = typing_ended state
@@ -226,7 +229,7 @@ unguarded_after state call = state
 abbrev pub state_after : State → Call → State
 state_after state made = if is_barred state made then barred_after state made else unguarded_after state made
 
--- The splices of the call in this state, one after another, in a text area that isn't read only. An
+-- The splices of the call in this state, one after another, if no guard leaves it out. An
 -- insertion over selected text has two, first the removal of that text; a replacement has at most
 -- two, and one of several matches at most two for each of them; indenting and outdenting have one for
 -- each line, and lines that move have two; any other edit, undo or redo has one, or those of a group;
@@ -234,19 +237,19 @@ state_after state made = if is_barred state made then barred_after state made el
 -- has none. Those of inputs are defined elsewhere.
 abbrev pub unguarded_splices : State → Call → List Splice
 unguarded_splices state (call.InsertChar c) = char_splices state c
-unguarded_splices state (call.InsertStr text) = str_splices state (fragment_symbols (chars text.now))
-unguarded_splices state (call.InsertPasted text) = str_splices state (pasted_symbols (chars text.now))
+unguarded_splices state (call.InsertStr text) = str_splices state (admitted state (fragment_symbols (chars text.now)))
+unguarded_splices state (call.InsertPasted text) = str_splices state (admitted state (pasted_symbols (chars text.now)))
 unguarded_splices state call.InsertTab = tab_splices state
 unguarded_splices state call.InsertNewline = str_splices state (Break ∷ [])
-unguarded_splices state call.Paste = str_splices state state.yank
+unguarded_splices state call.Paste = str_splices state (admitted state state.yank)
 unguarded_splices state call.DuplicateLine = selection_duplication state.document ∷ []
 unguarded_splices state call.IndentLines = indent_splices state.document state.settings.hard_tab_indent state.time
 unguarded_splices state call.OutdentLines = outdent_splices state.document state.time
 unguarded_splices state call.MoveLinesUp = move_up_splices state.document state.time
 unguarded_splices state call.MoveLinesDown = move_down_splices state.document state.time
-unguarded_splices state (call.ReplaceRange from to text) = range_splices state.document from to (fragment_symbols (chars text.now)) state.time
-unguarded_splices state (call.ReplaceMatch text) = match_splices state (fragment_symbols (chars text.now))
-unguarded_splices state (call.ReplaceAll text) = matches_splices state (fragment_symbols (chars text.now))
+unguarded_splices state (call.ReplaceRange from to text) = range_splices state.document from to (admitted state (fragment_symbols (chars text.now))) state.time
+unguarded_splices state (call.ReplaceMatch text) = match_splices state (admitted state (fragment_symbols (chars text.now)))
+unguarded_splices state (call.ReplaceAll text) = matches_splices state (admitted state (fragment_symbols (chars text.now)))
 unguarded_splices state (call.DeleteStr count) = selected_splices_or state.document (ahead_splices state.document count)
 unguarded_splices state call.DeleteNewline = selected_splices_or state.document (break_splices state.document)
 unguarded_splices state call.DeleteChar = selected_splices_or state.document (before_splices state.document)
@@ -262,7 +265,7 @@ unguarded_splices state call.Redo = redo_splices state.document
 unguarded_splices state (call.DeleteAtomicRangeAtCursor direction) = cursor_range_splices state.document direction
 unguarded_splices state call = []
 
--- the splices of the call: none, if the text area is read only
+-- the splices of the call: none, if a guard leaves it out
 abbrev pub call_splices : State → Call → List Splice
 call_splices state made = if is_barred state made then [] else unguarded_splices state made
 
@@ -271,12 +274,12 @@ call_splices state made = if is_barred state made then [] else unguarded_splices
 -- any other setting or a call that reads one, a call that begins, drops or completes a selection,
 -- one that clears or looks up ranges, or one that clears highlights
 abbrev pub NeedsMemory : State → Call → Type 0
-NeedsMemory state (call.InsertChar c) = is_editable state ≢ false
+NeedsMemory state (call.InsertChar c) = bars_character state c ≢ true
 NeedsMemory state (call.InsertStr text) = (is_editable state && inserts_text state (fragment_symbols (chars text.now))) ≢ false
 NeedsMemory state (call.InsertPasted text) = (is_editable state && inserts_text state (pasted_symbols (chars text.now))) ≢ false
 NeedsMemory state call.InsertTab = (is_editable state && inserts_tab state) ≢ false
-NeedsMemory state call.InsertNewline = is_editable state ≢ false
-NeedsMemory state call.DuplicateLine = is_editable state ≢ false
+NeedsMemory state call.InsertNewline = bars_break state ≢ true
+NeedsMemory state call.DuplicateLine = bars_break state ≢ true
 NeedsMemory state call.IndentLines = is_editable state ≢ false
 NeedsMemory state call.OutdentLines = is_editable state ≢ false
 NeedsMemory state call.MoveLinesUp = (is_editable state && has_line_above state.document) ≢ false
@@ -304,7 +307,7 @@ NeedsMemory state call.YankText = Unit {0}
 NeedsMemory state (call.TextRange from to) = Unit {0}
 NeedsMemory state (call.TrySetAtomicRanges ranges) = Unit {0}
 NeedsMemory state (call.DeleteAtomicRangeAtCursor direction) = removable_range state direction ≢ None
-NeedsMemory state (call.SetLines lines cursor) = Unit {0}
+NeedsMemory state (call.SetLines lines cursor) = bars_lines state lines.now ≢ true
 NeedsMemory state (call.SetSearchPattern text) = IsNewPattern state text.now
 NeedsMemory state (call.SetSearchText text ignore_case whole_word) = text.now ≢ []
 NeedsMemory state (call.SearchForward at_cursor) = state.pattern ≢ None

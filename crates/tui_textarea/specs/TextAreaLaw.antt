@@ -13,22 +13,23 @@ use Rattle.textarea_lines.specs.TextRows.{HasLayout}
 use Rattle.textarea_wrap.specs.RowsView.{RowsView}
 use Rattle.tui_textarea.specs.State.{State}
 use Rattle.tui_textarea.specs.Edits.{str_inserted}
-use Rattle.tui_textarea.specs.Guards.{is_editable, unless_read_only}
+use Rattle.tui_textarea.specs.Guards.{admitted, is_editable, unless_read_only}
 use Rattle.tui_textarea.specs.Selection.{selection_copied}
 
 abbrev pub copied_and_pasted : State → State
 copied_and_pasted state =
     let copied = selection_copied state in
-    unless_read_only copied (str_inserted copied copied.yank)
+    unless_read_only copied (str_inserted copied (admitted copied copied.yank))
 
--- A `paste` after a `copy` with selected text: the text has exactly the selected symbols inserted,
+-- A `paste` after a `copy` with selected text: the text has exactly the selected symbols inserted, with a
+-- space for each break in a text area of a single line,
 -- at the cursor or at the end of the atomic range that strictly contains it; the cursor is after
 -- them; and the paste returns that there was something to insert.
 pub record PastesCopy (state : State) : Type 0 where
   pub text : (copied_and_pasted state).document.text
-      ≡ inserted state.document.text (insertion_place state.document) (selected state.document)
+      ≡ inserted state.document.text (insertion_place state.document) (admitted state (selected state.document))
   pub cursor : (copied_and_pasted state).document.cursor
-      ≡ end (insertion_place state.document) (selected state.document)
+      ≡ end (insertion_place state.document) (admitted state (selected state.document))
   pub returned : (is_editable (selection_copied state) && has_symbols (selection_copied state).yank) ≡ true
 
 -- The ranges are those that `line_ranges` returns for the characters of this line, with that mode,

@@ -625,6 +625,25 @@ impl TextArea<'_> {
             .is(|h| unsafe { sys::ta_set_read_only(h, read_only) });
     }
 
+    /// Sets whether the text is kept in a single line, and returns whether it could be set: a text
+    /// of several lines can't be. Then a line break that is typed, and `duplicate_line`, do
+    /// nothing, breaks of a text that is inserted or pasted become spaces, and `set_lines` of
+    /// several lines does nothing. Setting it forgets all edits. Off at first.
+    ///
+    /// ```
+    /// use tui_textarea::TextArea;
+    ///
+    /// let mut area = TextArea::from(["one"]);
+    /// assert!(area.set_single_line(true));
+    /// area.insert_newline(); // breaks no line
+    /// area.insert_str("a\nb");
+    /// assert_eq!(area.lines(), ["a bone"]);
+    /// ```
+    pub fn set_single_line(&mut self, single_line: bool) -> bool {
+        self.core
+            .is(|h| unsafe { sys::ta_set_single_line(h, single_line) })
+    }
+
     /// Hides the line numbers.
     ///
     /// ```
@@ -862,6 +881,18 @@ impl TextArea<'_> {
     /// ```
     pub fn read_only(&self) -> bool {
         self.core.is(|h| unsafe { sys::ta_read_only(h) })
+    }
+
+    /// Returns whether the text is kept in a single line.
+    ///
+    /// ```
+    /// use tui_textarea::TextArea;
+    ///
+    /// let area = TextArea::from(["one"]);
+    /// assert!(!area.single_line());
+    /// ```
+    pub fn single_line(&self) -> bool {
+        self.core.is(|h| unsafe { sys::ta_single_line(h) })
     }
 
     /// Returns the distance of tab stops, in columns.

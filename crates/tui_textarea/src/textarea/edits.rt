@@ -5,13 +5,13 @@ ghost use Rattle.std.specs.Prelude.{◌≡◌, ◌<◌, OnOk, OnErr, IsOk, IfOk,
 ghost use Rattle.std.specs.Arc.{arc_value};
 ghost use Rattle.std.specs.Str.{chars};
 ghost use Rattle.textarea_document.specs.Selection.{first_selected_row, last_selected_row, lines_duplicated, with_lines_again};
-ghost use Rattle.tui_textarea.specs.Prelude.{Character, lines, with_document, text_of, has_symbols, is_selected, fragment_symbols, pasted_symbols, inserts_tab, inserts_text, symbols_or_none_inserted, spaces_to_stop, char_inserted, char_or_break_inserted, line_broken, newline_inserted, tab_inserted, tab_or_spaces_inserted, str_inserted, IsInsertOutOfMemory, selection_cancelled, unselected, is_editable, unless_read_only};
+ghost use Rattle.tui_textarea.specs.Prelude.{Character, lines, with_document, text_of, has_symbols, is_selected, fragment_symbols, pasted_symbols, inserts_tab, inserts_text, symbols_or_none_inserted, spaces_to_stop, char_inserted, char_or_break_inserted, line_broken, newline_inserted, tab_inserted, tab_or_spaces_inserted, str_inserted, IsInsertOutOfMemory, selection_cancelled, unselected, admitted, bars_break, bars_character, is_editable, unless_read_only};
 
 use crate::textarea::TextArea;
 use std::alloc::{AllocError, Global};
 use std::sync::Arc;
 use textarea_document::document::insertions::has_symbol;
-use textarea_text::fragment::{fragment_of, unify_line_ends};
+use textarea_text::fragment::unify_line_ends;
 use textarea_text::tab::spaces_to_stop;
 use textarea_text::util::spaces;
 
@@ -19,11 +19,12 @@ impl TextArea<'_> {
     /// Inserts the character at the cursor, or at the end of the atomic range that strictly
     /// contains it, as typed; `\n` and `\r` break the line.
     pub fn insert_char(&mut self, c: char) -> Result<(), AllocError>
-        ensures ok { OnOk result (self.new ≡ unless_read_only self.old (char_inserted self.old c)) }
+        ensures ok { OnOk result (self.new ≡ (if bars_character self.old c then self.old else
+            char_inserted self.old c)) }
         ensures err { OnErr result (IsInsertOutOfMemory self.old self.new) }
-        ensures nothing { is_editable self.old ≡ false → IsOk result }
+        ensures nothing { bars_character self.old c ≡ true → IsOk result }
     {
-        if self.read_only() {
+        if self.bars_character(c) {
             return Ok(());
         }
         self.insert_char_unguarded(c)
@@ -63,11 +64,11 @@ impl TextArea<'_> {
 
     /// Breaks the line at the cursor, or at the end of the atomic range that strictly contains it.
     pub fn insert_newline(&mut self) -> Result<(), AllocError>
-        ensures ok { OnOk result (self.new ≡ unless_read_only self.old (newline_inserted self.old)) }
+        ensures ok { OnOk result (self.new ≡ (if bars_break self.old then self.old else (newline_inserted self.old))) }
         ensures err { OnErr result (IsInsertOutOfMemory self.old self.new) }
-        ensures nothing { is_editable self.old ≡ false → IsOk result }
+        ensures nothing { bars_break self.old ≡ true → IsOk result }
     {
-        if self.read_only() {
+        if self.bars_break() {
             return Ok(());
         }
         self.insert_newline_unguarded()
@@ -99,8 +100,8 @@ impl TextArea<'_> {
     pub fn insert_str(&mut self, text: &str) -> Result<bool, AllocError>
         ensures inserted { IfOk result (λ inserted. inserted ≡ (is_editable self.old && inserts_text
             self.old (fragment_symbols (chars text.now)))) }
-        ensures ok { OnOk result (self.new ≡ unless_read_only self.old (str_inserted self.old
-            (fragment_symbols (chars text.now)))) }
+        ensures ok { OnOk result (self.new ≡ unless_read_only self.old (str_inserted self.old (admitted self.old
+            (fragment_symbols (chars text.now))))) }
         ensures err { OnErr result (IsInsertOutOfMemory self.old self.new) }
         ensures nothing { (is_editable self.old && inserts_text self.old (fragment_symbols (chars
             text.now))) ≡ false → IsOk result }
@@ -116,7 +117,8 @@ impl TextArea<'_> {
         ensures inserted { IfOk result
             (λ inserted. inserted ≡ inserts_text self.old (fragment_symbols (chars text.now))) }
         ensures ok { OnOk result
-            (self.new ≡ str_inserted self.old (fragment_symbols (chars text.now))) }
+            (self.new ≡ str_inserted self.old (admitted self.old
+            (fragment_symbols (chars text.now)))) }
         ensures err { OnErr result (IsInsertOutOfMemory self.old self.new) }
         ensures nothing { inserts_text self.old (fragment_symbols (chars text.now)) ≡ false → IsOk
             result }
@@ -124,8 +126,8 @@ impl TextArea<'_> {
         if !has_text(text) {
             return self.insert_nothing();
         }
-        let fragment_lines = fragment_of(self.allocator(), text)?;
-        self.insert_over_selection(Arc::new(self.allocator(), fragment_lines)?)?;
+        let fragment_lines = self.admitted_fragment(text)?;
+        self.insert_over_selection(fragment_lines)?;
         Ok(true)
     }
 
@@ -135,8 +137,8 @@ impl TextArea<'_> {
     pub fn insert_pasted(&mut self, text: &str) -> Result<bool, AllocError>
         ensures inserted { IfOk result (λ inserted. inserted ≡ (is_editable self.old && inserts_text
             self.old (pasted_symbols (chars text.now)))) }
-        ensures ok { OnOk result (self.new ≡ unless_read_only self.old (str_inserted self.old
-            (pasted_symbols (chars text.now)))) }
+        ensures ok { OnOk result (self.new ≡ unless_read_only self.old (str_inserted self.old (admitted self.old
+            (pasted_symbols (chars text.now))))) }
         ensures err { OnErr result (IsInsertOutOfMemory self.old self.new) }
         ensures nothing { (is_editable self.old && inserts_text self.old (pasted_symbols (chars
             text.now))) ≡ false → IsOk result }
@@ -152,7 +154,8 @@ impl TextArea<'_> {
         ensures inserted { IfOk result
             (λ inserted. inserted ≡ inserts_text self.old (pasted_symbols (chars text.now))) }
         ensures ok { OnOk result
-            (self.new ≡ str_inserted self.old (pasted_symbols (chars text.now))) }
+            (self.new ≡ str_inserted self.old (admitted self.old
+            (pasted_symbols (chars text.now)))) }
         ensures err { OnErr result (IsInsertOutOfMemory self.old self.new) }
         ensures nothing { inserts_text self.old (pasted_symbols (chars text.now)) ≡ false → IsOk
             result }
@@ -168,8 +171,7 @@ impl TextArea<'_> {
     pub fn paste(&mut self) -> Result<bool, AllocError>
         ensures inserted { IfOk result (λ inserted. inserted ≡ (is_editable self.old && has_symbols
             self.old.yank)) }
-        ensures ok { OnOk result (self.new ≡ unless_read_only self.old (str_inserted self.old
-            self.old.yank)) }
+        ensures ok { OnOk result (self.new ≡ unless_read_only self.old (str_inserted self.old (admitted self.old self.old.yank))) }
         ensures err { OnErr result (IsInsertOutOfMemory self.old self.new) }
         ensures nothing { (is_editable self.old && inserts_text self.old self.old.yank) ≡ false →
             IsOk result }
@@ -183,7 +185,7 @@ impl TextArea<'_> {
     // The same, whether the text area is read only or not.
     fn paste_unguarded(&mut self) -> Result<bool, AllocError>
         ensures inserted { IfOk result (λ inserted. inserted ≡ has_symbols self.old.yank) }
-        ensures ok { OnOk result (self.new ≡ str_inserted self.old self.old.yank) }
+        ensures ok { OnOk result (self.new ≡ str_inserted self.old (admitted self.old self.old.yank)) }
         ensures err { OnErr result (IsInsertOutOfMemory self.old self.new) }
         ensures nothing { inserts_text self.old self.old.yank ≡ false → IsOk result }
     {
@@ -191,8 +193,9 @@ impl TextArea<'_> {
             self.insert_nothing()?;
             return Ok(false);
         }
-        let fragment_lines = self.yank.clone()?;
-        self.insert_over_selection(fragment_lines)
+        let fragment_lines = self.admitted(self.yank.clone()?)?;
+        self.insert_over_selection(fragment_lines)?;
+        Ok(true)
     }
 
     // Replaces the selected text by a fragment, and returns whether the fragment has a symbol.
@@ -231,15 +234,15 @@ impl TextArea<'_> {
     /// ranges stay with the first lines, and the copy has none. What was yanked stays. After it the
     /// lines are those up to the last of these lines, and then those from the first of them on.
     pub fn duplicate_line(&mut self) -> Result<(), AllocError>
-        ensures ok { OnOk result (self.new ≡ unless_read_only self.old (with_document self.old
-            (lines_duplicated self.old.document self.old.time))) }
+        ensures ok { OnOk result (self.new ≡ (if bars_break self.old then self.old else (with_document self.old
+            (lines_duplicated self.old.document self.old.time)))) }
         ensures err { OnErr result (self.new ≡ self.old) }
-        ensures lines { OnOk result (lines self.new.document.text ≡ (if self.old.settings.read_only
+        ensures lines { OnOk result (lines self.new.document.text ≡ (if bars_break self.old
             then lines self.old.document.text else with_lines_again (lines self.old.document.text)
             (first_selected_row self.old.document) (last_selected_row self.old.document))) }
-        ensures nothing { is_editable self.old ≡ false → IsOk result }
+        ensures nothing { bars_break self.old ≡ true → IsOk result }
     {
-        if self.read_only() {
+        if self.bars_break() {
             return Ok(());
         }
         self.duplicate_line_unguarded()

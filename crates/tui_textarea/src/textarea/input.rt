@@ -10,7 +10,7 @@ use textarea_data::input::Input;
 
 impl TextArea<'_> {
     /// Makes the call that the key table with shortcuts has for the input, and returns whether the
-    /// text changed: true for a character or a line break, unless the text area is read only; the
+    /// text changed: true for a character or a line break, unless it is left out; the
     /// result of the call for any other edit, undo and redo; false for `copy`, a move, a scroll, and an input that is not in the
     /// table, which changes nothing. With Shift, a move or scroll extends the selection, or begins
     /// one; without Shift it drops the selection. A move without a target changes nothing.
@@ -50,12 +50,12 @@ impl TextArea<'_> {
         match action {
             Action::Nothing => Ok(false),
             Action::InsertChar(c) => {
-                let editable = !self.read_only();
-                self.insert_char(c).map(|()| editable)
+                let inserts = !self.bars_character(c);
+                self.insert_char(c).map(|()| inserts)
             }
             Action::InsertNewline => {
-                let editable = !self.read_only();
-                self.insert_newline().map(|()| editable)
+                let inserts = !self.bars_break();
+                self.insert_newline().map(|()| inserts)
             }
             Action::InsertTab => self.insert_tab(),
             Action::Paste => self.paste(),

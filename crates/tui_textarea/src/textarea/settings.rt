@@ -18,10 +18,13 @@ pub struct Settings {
     pub undo_grouping: bool,
     /// Whether no call but `set_lines` changes the text.
     pub read_only: bool,
+    /// Whether the text is kept in a single line.
+    pub single_line: bool,
 }
 
 impl Default for Settings {
-    /// Tabs as spaces, typed edits do not join, no edits are grouped, and the text can be edited.
+    /// Tabs as spaces, typed edits do not join, no edits are grouped, and the text can be edited
+    /// and have several lines.
     fn default() -> Settings
         ensures { result ≡ default_settings }
     {
@@ -30,6 +33,7 @@ impl Default for Settings {
             undo_coalescing: false,
             undo_grouping: false,
             read_only: false,
+            single_line: false,
         }
     }
 }
