@@ -63,7 +63,7 @@ module _ (laws : TheLaws) where
 
   pub call_wraps : (old new : State) (made : Call) (returned : CallResult) → IsSound old.document → IsAfterCall old made returned new → WrapsByCall old made new
   call_wraps old new (call.SetLines lines cursor) returned h k =
-      lines_wrap old new (with_lines old lines.now cursor) (bars_lines old lines.now) k
+      lines_wrap old new (with_lines old lines.now cursor) (bars_lines old (lines_of lines.now)) k
       (laws.lines old.document (text_of lines.now) (clip (lines_of lines.now) cursor) old.document.log.maximum)
   call_wraps old new (call.SetTabLength columns) returned h k = set old new (with_layout old (tab_length_set old columns)) (tab_length_set old columns) (ap (λ (s : State). s.document) k) refl
   call_wraps old new (call.SetWrapMode mode) returned h k = set old new (with_layout old (mode_set old mode)) (mode_set old mode) (ap (λ (s : State). s.document) k) refl
@@ -113,7 +113,7 @@ module _ (never : Never) where
   lines_grow old new false h = never.lines (text_and_layout old.document) (text_and_layout new.document) h
 
   pub call_grows : (old new : State) (made : Call) → WrapsByCall old made new → old.document.layout.count ≤ new.document.layout.count
-  call_grows old new (call.SetLines lines cursor) h = lines_grow old new (bars_lines old lines.now) h
+  call_grows old new (call.SetLines lines cursor) h = lines_grow old new (bars_lines old (lines_of lines.now)) h
   call_grows old new (call.SetTabLength columns) h = settings_grow old.document new.document (tab_length_set old columns) h
   call_grows old new (call.SetWrapMode mode) h = settings_grow old.document new.document (mode_set old mode) h
   call_grows old new (call.SetLineNumberStyle style) h = settings_grow old.document new.document (line_numbers_set old true) h

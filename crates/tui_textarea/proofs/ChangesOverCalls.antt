@@ -126,7 +126,7 @@ module _ (laws : TheLaws) where
   leads old new call.TakeChanges returned sets takes h k = absurd (takes tt)
   leads old new (call.SetLines items cursor) returned sets takes h k =
       subst (λ (s : State). ChangesLead old.document s.document) (sym k)
-      (by_test (λ (s : State). ChangesLead old.document s.document) (bars_lines old items.now) old (with_lines old items.now cursor)
+      (by_test (λ (s : State). ChangesLead old.document s.document) (bars_lines old (lines_of items.now)) old (with_lines old items.now cursor)
       (λ barred. stays old.document old.document refl) (λ set. laws.lines old.document (lines_of items.now) cursor))
   leads old new (call.SetTabLength columns) returned sets takes h k = unchanged old new _ k refl refl
   leads old new (call.SetWrapMode mode) returned sets takes h k = unchanged old new _ k refl refl

@@ -13,6 +13,7 @@ use Rattle.tui_textarea.specs.RangesOverActions.{RangesFollowAction}
 use Rattle.tui_textarea.specs.Input.{IsAfterAction, asked_by, asked_without_shortcuts, call_of_action, state_after_any}
 use Rattle.tui_textarea.specs.State.{State}
 use Rattle.tui_textarea.specs.Calls.{state_after, ranges_result, rejected_ranges, with_lines, with_ranges_if}
+use Rattle.textarea_text.specs.Text.{lines_of}
 use Rattle.tui_textarea.specs.Guards.{bars_lines}
 use Rattle.tui_textarea.specs.RangesOverCalls.{NoRangeUnless, RangesFollowCall, IsUndoOrRedo, IsUndoOrRedoAct}
 use Rattle.tui_textarea.specs.Outcomes.{IsResultOf, IsAfterCall, IsAfterOutOfMemory}
@@ -74,7 +75,7 @@ module _ (laws : TheLaws) where
   ranges_follow old new made returned h k = calls_by RangesStayWhole RangesFollowSplices (reckoning_of laws.edited) (past_follows laws.undone laws.redone) old new made returned h k
 
   pub ranges_follow_call : (old new : State) (made : Call) (returned : CallResult) → IsSound old.document → IsResultOf old made returned → IsAfterCall old made returned new → RangesFollowCall old made returned new
-  ranges_follow_call old new (call.SetLines lines cursor) returned h e k = lines_set old new (with_lines old lines.now cursor) (bars_lines old lines.now) refl k
+  ranges_follow_call old new (call.SetLines lines cursor) returned h e k = lines_set old new (with_lines old lines.now cursor) (bars_lines old (lines_of lines.now)) refl k
   ranges_follow_call old new call.ClearAtomicRanges returned h e k = ap (λ (s : State). s.document.ranges) k
   ranges_follow_call old new (call.TrySetAtomicRanges ranges) returned h e k = set_ranges old new ranges (rejected_ranges old ranges.now) returned e k
   ranges_follow_call old new (call.SetTabLength columns) returned h e k = unchanged old new _ k refl refl
@@ -111,7 +112,7 @@ module _ (laws : TheLaws) where
   call_fits state call.Redo h = act_fits state action.Redo h
   call_fits state (call.Input input) h = act_fits state (asked_by input.now) h
   call_fits state (call.InputWithoutShortcuts input) h = act_fits state (asked_without_shortcuts input.now) h
-  call_fits state (call.SetLines lines cursor) h = by_test (Fitting state (IsUndoOrRedo (call.SetLines lines cursor))) (bars_lines state lines.now) [] [] (λ barred. (tt, λ no. tt)) (λ set. (tt, λ no. tt))
+  call_fits state (call.SetLines lines cursor) h = by_test (Fitting state (IsUndoOrRedo (call.SetLines lines cursor))) (bars_lines state (lines_of lines.now)) [] [] (λ barred. (tt, λ no. tt)) (λ set. (tt, λ no. tt))
   call_fits state (call.SetTabLength columns) h = (tt, λ no. tt)
   call_fits state (call.SetWrapMode mode) h = (tt, λ no. tt)
   call_fits state (call.SetLineNumberStyle style) h = (tt, λ no. tt)

@@ -6,12 +6,14 @@ use Rattle.textarea_calls.specs.declared.call.Call.{Call}
 use Rattle.textarea_calls.specs.declared.call.Call.TheVariants as call
 use Rattle.textarea_data.specs.declared.range.AtomicDeleteDirection.{AtomicDeleteDirection}
 use Rattle.textarea_data.specs.declared.range.AtomicRange.{AtomicRange}
+use Rattle.textarea_document.specs.DocumentState.{lines_replaced}
 use Rattle.textarea_document.specs.Edits.{range_at_cursor}
 use Rattle.textarea_history.specs.Log.{empty_log}
-use Rattle.textarea_text.specs.Text.{Symbol, Break, Character, lines}
+use Rattle.textarea_text.specs.Place.{Place}
+use Rattle.textarea_text.specs.Text.{Symbol, Break, Character, lines, lines_of}
 use Rattle.tui_textarea.specs.Edits.{breaks_line}
 use Rattle.tui_textarea.specs.Selection.{selection_copied}
-use Rattle.tui_textarea.specs.State.{State}
+use Rattle.tui_textarea.specs.State.{State, with_other_lines}
 
 -- ---- read only
 
@@ -36,8 +38,13 @@ abbrev pub bars_character : State → ℕ → Bool
 bars_character state c = (breaks_line c && state.settings.single_line) || state.settings.read_only
 
 -- other lines are left out: there is more than one
-abbrev pub bars_lines : {A : Type 0} → State → List A → Bool
-bars_lines state items = state.settings.single_line && nat_lt 1 (length items)
+abbrev pub bars_lines : State → List (List ℕ) → Bool
+bars_lines state rows = state.settings.single_line && nat_lt 1 (length rows)
+
+-- these lines replace the old ones, unless they are left out
+abbrev pub other_lines_set : State → List (List ℕ) → Place → State
+other_lines_set state rows cursor =
+    if bars_lines state rows then state else with_other_lines state (lines_replaced state.document rows cursor)
 
 -- what is inserted of a text: with a space for each break, in a text area of a single line
 abbrev pub spaced : Symbol → Symbol
@@ -77,7 +84,7 @@ breaks made = false
 -- The call is left out: it would break a single line, or set several lines there, or it edits a text
 -- that is read only, where lines may be set.
 abbrev pub is_barred : State → Call → Bool
-is_barred state (call.SetLines lines cursor) = bars_lines state lines.now
+is_barred state (call.SetLines lines cursor) = bars_lines state (lines_of lines.now)
 is_barred state made = (breaks made && state.settings.single_line) || (edits made && state.settings.read_only)
 
 -- the state after such a call: `cut` copies, and any other changes nothing

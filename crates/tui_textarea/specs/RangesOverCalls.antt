@@ -14,6 +14,7 @@ use Rattle.textarea_screen.specs.declared.screen.buffer.Buffer.{Buffer}
 use Rattle.textarea_calls.specs.declared.action.Action.{Action}
 use Rattle.textarea_calls.specs.declared.action.Action.TheVariants as action
 use Rattle.tui_textarea.specs.RangesOverActions.{RangesFollowAction}
+use Rattle.textarea_text.specs.Text.{lines_of}
 use Rattle.tui_textarea.specs.Guards.{bars_lines}
 use Rattle.tui_textarea.specs.Input.{asked_by, asked_without_shortcuts}
 use Rattle.tui_textarea.specs.State.{State}
@@ -42,14 +43,14 @@ NoRangeUnless false old new = HoldsNoRange new
 
 -- The call's splices lead from the old text to the new one, none if nothing is edited, and the
 -- ranges move with the text; only the splices of undo and redo may split a range. New lines, unless
--- they are left out, and the
--- call that clears leave no range, and ranges that are set replace the old ones.
+-- they are left out, and the call that clears leave no range, and ranges that are set replace the old
+-- ones.
 abbrev pub RangesFollowCall : State → Call → CallResult → State → Type 0
 RangesFollowCall old Undo returned new = RangesFollowSplices old.document (splices_of old Undo) new.document
 RangesFollowCall old Redo returned new = RangesFollowSplices old.document (splices_of old Redo) new.document
 RangesFollowCall old (Input input) returned new = RangesFollowAction (asked_by input.now) old.document (splices_of old (Input input)) new.document
 RangesFollowCall old (InputWithoutShortcuts input) returned new = RangesFollowAction (asked_without_shortcuts input.now) old.document (splices_of old (InputWithoutShortcuts input)) new.document
-RangesFollowCall old (SetLines lines cursor) returned new = NoRangeUnless (bars_lines old lines.now) old new
+RangesFollowCall old (SetLines lines cursor) returned new = NoRangeUnless (bars_lines old (lines_of lines.now)) old new
 RangesFollowCall old ClearAtomicRanges returned new = HoldsNoRange new
 RangesFollowCall old (TrySetAtomicRanges ranges) Done new = HoldsRanges old ranges.now new
 RangesFollowCall old call returned new = RangesStayWhole old.document (splices_of old call) new.document

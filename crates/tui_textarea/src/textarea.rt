@@ -24,10 +24,10 @@ pub mod settings;
 mod styles;
 mod surround;
 
-ghost use Rattle.std.specs.Prelude.{◌≡◌, ◌<◌, ◌≤◌, ◌↔◌, length, OnErr, OnOk, IfOk, IsOk, if◌then◌else◌, true, IsTrue, [], string_bytes, vec_len};
+ghost use Rattle.std.specs.Prelude.{◌≡◌, ◌<◌, ◌≤◌, ◌↔◌, length, OnErr, OnOk, IfOk, IsOk, true, IsTrue, [], string_bytes, vec_len};
 ghost use Rattle.std.specs.Arc.{arc_value};
 ghost use Rattle.std.specs.Str.{chars};
-ghost use Rattle.tui_textarea.specs.Prelude.{fragment_text, size_limit, lines, lines_of, text_of, IsPlace, size_of, changes_taken, lines_replaced, new_state, with_other_lines, bars_lines};
+ghost use Rattle.tui_textarea.specs.Prelude.{fragment_text, size_limit, lines, lines_of, text_of, IsPlace, size_of, changes_taken, new_state, other_lines_set, bars_lines};
 
 use crate::drawing::Drawing;
 use crate::textarea::settings::Settings;
@@ -177,12 +177,11 @@ impl<'a> TextArea<'a> {
     ) -> Result<(), AllocError>
         requires some { 0 < vec_len lines }
         ensures ok { OnOk result
-            (self.new ≡ (if bars_lines self.old lines.items then self.old else with_other_lines self.old
-            (lines_replaced self.old.document (lines_of lines.items) cursor))) }
+            (self.new ≡ other_lines_set self.old (lines_of lines.items) cursor) }
         ensures err { OnErr result (self.new ≡ self.old) }
-        ensures nothing { bars_lines self.old lines.items ≡ true → IsOk result }
+        ensures nothing { bars_lines self.old (lines_of lines.items) ≡ true → IsOk result }
     {
-        if self.settings.single_line && 1 < lines.len() {
+        if self.bars_lines(lines.as_slice()) {
             return Ok(());
         }
         self.document.set_lines(lines, cursor)?;

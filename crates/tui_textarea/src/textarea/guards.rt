@@ -1,11 +1,11 @@
 //! What a text area leaves out: all edits while it is read only, and line breaks while it has a single
 //! line.
-ghost use Rattle.std.specs.Prelude.{◌≡◌, ◌&&◌, IfOk, map, not};
+ghost use Rattle.std.specs.Prelude.{◌≡◌, ◌&&◌, IfOk, map, not, string_bytes};
 ghost use Rattle.std.specs.Arc.{arc_value};
 ghost use Rattle.std.specs.Str.{chars};
 ghost use Rattle.textarea_text.specs.Text.{characters};
 ghost use Rattle.tui_textarea.specs.Guards.{spaced};
-ghost use Rattle.tui_textarea.specs.Prelude.{admitted, bars_break, bars_character, has_several_lines, single_line_set, string_bytes, text_of};
+ghost use Rattle.tui_textarea.specs.Prelude.{admitted, bars_break, bars_character, bars_lines, has_several_lines, single_line_set, lines_of, text_of};
 
 use crate::textarea::TextArea;
 use std::alloc::{AllocError, Global};
@@ -74,6 +74,13 @@ impl TextArea<'_> {
         ensures { result ≡ bars_character self.now c }
     {
         ((c == '\n' || c == '\r') && self.settings.single_line) || self.settings.read_only
+    }
+
+    // Returns whether other lines are left out.
+    pub(super) fn bars_lines(&self, lines: &[String]) -> bool
+        ensures { result ≡ bars_lines self.now (lines_of lines.now) }
+    {
+        self.settings.single_line && 1 < lines.len()
     }
 
     // Returns what is inserted of a fragment.
