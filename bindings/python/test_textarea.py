@@ -101,6 +101,15 @@ class Calls(unittest.TestCase):
         area.insert_char("x")
         self.assertTrue(area.text == "onex" and area.undo())
 
+    def test_single_line(self):
+        area = TextArea("one\ntwo")
+        self.assertFalse(area.single_line or area.set_single_line(True))
+        area.lines = ["one"]
+        self.assertTrue(area.set_single_line(True) and area.single_line)
+        area.insert_newline()
+        self.assertTrue(area.insert_pasted("a\r\nb") and not area.input(Input.char("\n")))
+        self.assertEqual(area.text, "a bone")
+
     def test_undo_groups(self):
         area = TextArea("one")
         self.assertFalse(area.undo_grouping)
