@@ -17,14 +17,15 @@ use Rattle.textarea_document.specs.Edits.{range_at_cursor, has_symbols}
 use Rattle.textarea_document.specs.Indenting.{indent_splices, lines_indented, lines_outdented, outdent_splices, shifts_lines}
 use Rattle.textarea_document.specs.Moving.{has_line_above, has_line_below, lines_moved_down, lines_moved_up, move_down_splices, move_up_splices}
 use Rattle.textarea_document.specs.Outcomes.{after_redo, run_ended, after_undo}
-use Rattle.textarea_document.specs.Replacing.{range_splices, replaces, stretch_symbols}
+use Rattle.textarea_document.specs.Replacing.{replaces, stretch_symbols}
 use Rattle.textarea_document.specs.Selection.{is_selected, lines_duplicated, selection_duplication}
 use Rattle.textarea_document.specs.Selection as document_selection
 use Rattle.textarea_document.specs.Splices.{after_splices, before_splices, break_splices, cursor_range_splices, redo_splices, selected_splices, undo_splices}
 use Rattle.tui_textarea.specs.State.{State, with_change_log, with_changes_taken, with_document, with_other_lines}
-use Rattle.tui_textarea.specs.Splices.{ahead_splices, char_splices, clear_splices, line_end_splices, line_head_splices, selected_splices_or, str_splices, tab_splices, word_after_splices, word_before_splices}
+use Rattle.tui_textarea.specs.Splices.{ahead_splices, char_splices, clear_splices, line_end_splices, line_head_splices, selected_splices_or, str_splices, tab_splices, typed_splices, word_after_splices, word_before_splices}
 use Rattle.tui_textarea.specs.Edits.{inserts_tab, inserts_text, char_inserted, newline_inserted, tab_inserted, str_inserted}
-use Rattle.tui_textarea.specs.Guards.{admitted, barred_after, bars_break, bars_character, has_several_lines, is_barred, is_editable, removable_range, single_line_set}
+use Rattle.tui_textarea.specs.Fitting.{fitting, fitting_between}
+use Rattle.tui_textarea.specs.Guards.{admitted, barred_after, bars_break, bars_character, bars_duplicate, bars_each, bars_indent, bars_tab, has_several_lines, is_barred, is_editable, removable_range, single_line_set}
 use Rattle.tui_textarea.specs.Grouping.{typing_ended, undo_group_begun, undo_group_ended}
 use Rattle.tui_textarea.specs.Removals.{break_before_removed, text_cleared, has_ahead, has_before, has_after, has_break_before, has_line_before, has_line_after, has_word_before}
 use Rattle.tui_textarea.specs.Removals.{has_word_after, line_end_removed, line_head_removed, removes_or, symbol_before_removed, symbol_after_removed, symbols_ahead_removed}
@@ -42,7 +43,7 @@ use Rattle.tui_textarea.specs.Moves.{gone_to}
 use Rattle.tui_textarea.specs.Measure.{reads_rows, with_surround}
 use Rattle.tui_textarea.specs.Search.{match_count, match_index, next_match, previous_match, after_search, with_pattern, with_search_text}
 use Rattle.tui_textarea.specs.Patterns.{IsNewPattern}
-use Rattle.tui_textarea.specs.Replacing.{match_at_cursor, match_replaced, match_splices, matches_replaced, matches_splices, replaceable, with_range_replaced}
+use Rattle.tui_textarea.specs.Replacing.{match_at_cursor, match_replaced, match_splices, matches_replaced, matches_splices, replaceable, state_range_splices, with_range_replaced}
 use Rattle.tui_textarea.specs.Ranges.{cursor_normalized, atomic_range_removed, ranges_accepted, ranges_cleared}
 use Rattle.tui_textarea.specs.CallResults as reported
 use Rattle.tui_textarea.specs.CallResults.{CallResult, Done, Flag, Range, Rejected, Text}
@@ -68,14 +69,14 @@ with_ranges_if (range ∷ rejected) state ranges = state
 abbrev pub result_of_call : State → Call → CallResult
 result_of_call state (call.InsertStr text) = Flag (is_editable state && inserts_text state (fragment_symbols (chars text.now)))
 result_of_call state (call.InsertPasted text) = Flag (is_editable state && inserts_text state (pasted_symbols (chars text.now)))
-result_of_call state call.IndentLines = Flag (is_editable state && shifts_lines state.document false)
+result_of_call state call.IndentLines = Flag (not (bars_indent state) && shifts_lines state.document false)
 result_of_call state call.OutdentLines = Flag (is_editable state && shifts_lines state.document true)
 result_of_call state call.MoveLinesUp = Flag (is_editable state && has_line_above state.document)
 result_of_call state call.MoveLinesDown = Flag (is_editable state && has_line_below state.document)
-result_of_call state (call.ReplaceRange from to text) = Flag (is_editable state && replaces state.document.text from to (admitted state (fragment_symbols (chars text.now))))
+result_of_call state (call.ReplaceRange from to text) = Flag (is_editable state && replaces state.document.text from to (fitting_between state from to (admitted state (fragment_symbols (chars text.now)))))
 result_of_call state (call.ReplaceMatch text) = Flag (is_editable state && is_some (match_at_cursor state))
-result_of_call state (call.ReplaceAll text) = reported.Number (if state.settings.read_only then 0 else length (replaceable state))
-result_of_call state call.InsertTab = Flag (is_editable state && inserts_tab state)
+result_of_call state (call.ReplaceAll text) = reported.Number (if bars_each state text then 0 else length (replaceable state))
+result_of_call state call.InsertTab = Flag (not (bars_tab state) && inserts_tab state)
 result_of_call state (call.DeleteStr count) = Flag (is_editable state && removes_or state (has_ahead state count))
 result_of_call state call.DeleteNewline = Flag (is_editable state && removes_or state (has_break_before state))
 result_of_call state call.DeleteChar = Flag (is_editable state && removes_or state (has_before state))
@@ -86,7 +87,7 @@ result_of_call state call.DeleteWord = Flag (is_editable state && removes_or sta
 result_of_call state call.DeleteNextWord = Flag (is_editable state && removes_or state (has_word_after state))
 result_of_call state call.Clear = Flag (is_editable state && has_symbols state.document.text)
 result_of_call state call.Cut = Flag (is_selected state.document)
-result_of_call state call.Paste = Flag (is_editable state && has_symbols state.yank)
+result_of_call state call.Paste = Flag (is_editable state && has_symbols (fitting (unselected state) (admitted state state.yank)))
 result_of_call state call.Undo = Flag (is_editable state && is_some (newest state.document.log))
 result_of_call state call.Redo = Flag (is_editable state && is_some (next state.document.log))
 result_of_call state call.TakeChanges = reported.Changes state.document.changes.made
@@ -125,6 +126,7 @@ result_of_call state call.UndoGrouping = Flag state.settings.undo_grouping
 result_of_call state call.ReadOnly = Flag state.settings.read_only
 result_of_call state (call.SetSingleLine single_line) = Flag (not (single_line && has_several_lines state))
 result_of_call state call.SingleLine = Flag state.settings.single_line
+result_of_call state call.MaxChars = reported.NumberIfAny state.settings.max_chars
 result_of_call state call.WrapMode = reported.WrapMode state.document.layout.settings.mode
 result_of_call state call.LineNumberStyle = reported.StyleIfVisible (number_style state)
 result_of_call state call.PlaceholderStyle = reported.StyleIfVisible (style_with_lines state.surround.placeholder.lines state.surround.placeholder.style)
@@ -204,6 +206,7 @@ unguarded_after state (call.SetUndoCoalescing joins) =
 unguarded_after state (call.SetUndoGrouping groups) = record state { settings = record state.settings { undo_grouping = groups } }
 unguarded_after state (call.SetReadOnly read_only) = record state { settings = record state.settings { read_only = read_only } }
 unguarded_after state (call.SetSingleLine single_line) = single_line_set state single_line
+unguarded_after state (call.SetMaxChars maximum) = record state { settings = record state.settings { max_chars = maximum } }
 unguarded_after state call.BeginUndoGroup = undo_group_begun state
 unguarded_after state call.EndUndoGroup = undo_group_ended state
 unguarded_after state call.EndRun = typing_ended state
@@ -240,14 +243,14 @@ unguarded_splices state (call.InsertChar c) = char_splices state c
 unguarded_splices state (call.InsertStr text) = str_splices state (admitted state (fragment_symbols (chars text.now)))
 unguarded_splices state (call.InsertPasted text) = str_splices state (admitted state (pasted_symbols (chars text.now)))
 unguarded_splices state call.InsertTab = tab_splices state
-unguarded_splices state call.InsertNewline = str_splices state (Break ∷ [])
+unguarded_splices state call.InsertNewline = typed_splices state (Break ∷ [])
 unguarded_splices state call.Paste = str_splices state (admitted state state.yank)
 unguarded_splices state call.DuplicateLine = selection_duplication state.document ∷ []
 unguarded_splices state call.IndentLines = indent_splices state.document state.settings.hard_tab_indent state.time
 unguarded_splices state call.OutdentLines = outdent_splices state.document state.time
 unguarded_splices state call.MoveLinesUp = move_up_splices state.document state.time
 unguarded_splices state call.MoveLinesDown = move_down_splices state.document state.time
-unguarded_splices state (call.ReplaceRange from to text) = range_splices state.document from to (admitted state (fragment_symbols (chars text.now))) state.time
+unguarded_splices state (call.ReplaceRange from to text) = state_range_splices state from to (admitted state (fragment_symbols (chars text.now)))
 unguarded_splices state (call.ReplaceMatch text) = match_splices state (admitted state (fragment_symbols (chars text.now)))
 unguarded_splices state (call.ReplaceAll text) = matches_splices state (admitted state (fragment_symbols (chars text.now)))
 unguarded_splices state (call.DeleteStr count) = selected_splices_or state.document (ahead_splices state.document count)
@@ -277,10 +280,10 @@ abbrev pub NeedsMemory : State → Call → Type 0
 NeedsMemory state (call.InsertChar c) = bars_character state c ≢ true
 NeedsMemory state (call.InsertStr text) = (is_editable state && inserts_text state (fragment_symbols (chars text.now))) ≢ false
 NeedsMemory state (call.InsertPasted text) = (is_editable state && inserts_text state (pasted_symbols (chars text.now))) ≢ false
-NeedsMemory state call.InsertTab = (is_editable state && inserts_tab state) ≢ false
+NeedsMemory state call.InsertTab = (not (bars_tab state) && inserts_tab state) ≢ false
 NeedsMemory state call.InsertNewline = bars_break state ≢ true
-NeedsMemory state call.DuplicateLine = bars_break state ≢ true
-NeedsMemory state call.IndentLines = is_editable state ≢ false
+NeedsMemory state call.DuplicateLine = bars_duplicate state ≢ true
+NeedsMemory state call.IndentLines = bars_indent state ≢ true
 NeedsMemory state call.OutdentLines = is_editable state ≢ false
 NeedsMemory state call.MoveLinesUp = (is_editable state && has_line_above state.document) ≢ false
 NeedsMemory state call.MoveLinesDown = (is_editable state && has_line_below state.document) ≢ false

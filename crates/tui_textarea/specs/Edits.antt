@@ -6,6 +6,7 @@ use Rattle.textarea_document.specs.DocumentState.{DocumentState}
 use Rattle.textarea_document.specs.Edits.{insertion_place, has_symbols, break_inserted, character_inserted, symbols_inserted}
 use Rattle.textarea_document.specs.Selection.{is_selected}
 use Rattle.textarea_text.specs.Tab.{width_of}
+use Rattle.tui_textarea.specs.Fitting.{fitting}
 use Rattle.tui_textarea.specs.Grouping.{call_begun, call_ended}
 use Rattle.tui_textarea.specs.State.{State, with_document}
 use Rattle.tui_textarea.specs.Selection.{selection_cancelled, unselected}
@@ -26,10 +27,10 @@ line_broken state = with_document state (break_inserted state.document state.tim
 abbrev pub char_or_break_inserted : State → ℕ → State
 char_or_break_inserted state c = if breaks_line c then line_broken state else typed_character_inserted state c
 
--- the symbols are inserted; without any, the cursor moves to the insertion position, and nothing is
--- selected any more
+-- what fits of the symbols is inserted; without any, the cursor moves to the insertion position, and
+-- nothing is selected any more
 abbrev pub symbols_or_none_inserted : State → List Symbol → State
-symbols_or_none_inserted state symbols = with_document state (symbols_inserted state.document symbols state.time)
+symbols_or_none_inserted state symbols = with_document state (symbols_inserted state.document (fitting state symbols) state.time)
 
 -- the characters before the insertion position in its line: before the cursor, or before the end of
 -- the atomic range that strictly contains it
@@ -60,7 +61,7 @@ str_inserted state symbols = call_ended state (symbols_or_none_inserted (unselec
 
 -- whether a text was inserted or a selection removed
 abbrev pub inserts_text : State → List Symbol → Bool
-inserts_text state symbols = is_selected state.document || has_symbols symbols
+inserts_text state symbols = is_selected state.document || has_symbols (fitting (unselected state) symbols)
 
 abbrev pub tab_inserted : State → State
 tab_inserted state = call_ended state (tab_or_spaces_inserted (unselected (call_begun state)) (tab_length state.document))
