@@ -24,8 +24,8 @@ use Rattle.textarea_document.specs.Splices.{after_splices, before_splices, break
 use Rattle.tui_textarea.specs.State.{State, with_change_log, with_changes_taken, with_document, with_other_lines}
 use Rattle.tui_textarea.specs.Splices.{ahead_splices, char_splices, clear_splices, line_end_splices, line_head_splices, selected_splices_or, str_splices, tab_splices, typed_splices, word_after_splices, word_before_splices}
 use Rattle.tui_textarea.specs.Edits.{inserts_tab, inserts_text, char_inserted, newline_inserted, tab_inserted, str_inserted}
-use Rattle.tui_textarea.specs.Fitting.{fitting, fitting_between}
-use Rattle.tui_textarea.specs.Guards.{admitted, barred_after, bars_break, bars_character, bars_duplicate, bars_each, bars_indent, bars_tab, has_several_lines, is_barred, is_editable, removable_range, single_line_set}
+use Rattle.tui_textarea.specs.Fitting.{fitting_between}
+use Rattle.tui_textarea.specs.Guards.{admitted, admitted_over_selection, barred_after, bars_break, bars_character, bars_duplicate, bars_each, bars_indent, bars_tab, has_several_lines, is_barred, is_editable, removable_range, single_line_set}
 use Rattle.tui_textarea.specs.Grouping.{typing_ended, undo_group_begun, undo_group_ended}
 use Rattle.tui_textarea.specs.Removals.{break_before_removed, text_cleared, has_ahead, has_before, has_after, has_break_before, has_line_before, has_line_after, has_word_before}
 use Rattle.tui_textarea.specs.Removals.{has_word_after, line_end_removed, line_head_removed, removes_or, symbol_before_removed, symbol_after_removed, symbols_ahead_removed}
@@ -67,8 +67,8 @@ with_ranges_if (range ∷ rejected) state ranges = state
 -- the result of the call; of one that sets a pattern, if the pattern is accepted. The results of a
 -- measure, a hit test and an input are defined elsewhere
 abbrev pub result_of_call : State → Call → CallResult
-result_of_call state (call.InsertStr text) = Flag (is_editable state && inserts_text state (fragment_symbols (chars text.now)))
-result_of_call state (call.InsertPasted text) = Flag (is_editable state && inserts_text state (pasted_symbols (chars text.now)))
+result_of_call state (call.InsertStr text) = Flag (is_editable state && inserts_text state (admitted_over_selection state (fragment_symbols (chars text.now))))
+result_of_call state (call.InsertPasted text) = Flag (is_editable state && inserts_text state (admitted_over_selection state (pasted_symbols (chars text.now))))
 result_of_call state call.IndentLines = Flag (not (bars_indent state) && shifts_lines state.document false)
 result_of_call state call.OutdentLines = Flag (is_editable state && shifts_lines state.document true)
 result_of_call state call.MoveLinesUp = Flag (is_editable state && has_line_above state.document)
@@ -87,7 +87,7 @@ result_of_call state call.DeleteWord = Flag (is_editable state && removes_or sta
 result_of_call state call.DeleteNextWord = Flag (is_editable state && removes_or state (has_word_after state))
 result_of_call state call.Clear = Flag (is_editable state && has_symbols state.document.text)
 result_of_call state call.Cut = Flag (is_selected state.document)
-result_of_call state call.Paste = Flag (is_editable state && has_symbols (fitting (unselected state) (admitted state state.yank)))
+result_of_call state call.Paste = Flag (is_editable state && has_symbols (admitted_over_selection state state.yank))
 result_of_call state call.Undo = Flag (is_editable state && is_some (newest state.document.log))
 result_of_call state call.Redo = Flag (is_editable state && is_some (next state.document.log))
 result_of_call state call.TakeChanges = reported.Changes state.document.changes.made

@@ -61,7 +61,7 @@ str_inserted state symbols = call_ended state (symbols_or_none_inserted (unselec
 
 -- whether a text was inserted or a selection removed
 abbrev pub inserts_text : State → List Symbol → Bool
-inserts_text state symbols = is_selected state.document || has_symbols (fitting (unselected state) symbols)
+inserts_text state symbols = is_selected state.document || has_symbols symbols
 
 abbrev pub tab_inserted : State → State
 tab_inserted state = call_ended state (tab_or_spaces_inserted (unselected (call_begun state)) (tab_length state.document))

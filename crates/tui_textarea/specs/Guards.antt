@@ -15,9 +15,9 @@ use Rattle.textarea_text.specs.Fragment.{fragment_symbols}
 use Rattle.textarea_text.specs.Place.{Place}
 use Rattle.textarea_text.specs.Text.{Symbol, Break, Character, lines, lines_of}
 use Rattle.tui_textarea.specs.Edits.{breaks_line}
-use Rattle.tui_textarea.specs.Fitting.{fits_duplicate, fits_each, fits_indent, is_full}
+use Rattle.tui_textarea.specs.Fitting.{fitting, fits_duplicate, fits_each, fits_indent, is_full}
 use Rattle.tui_textarea.specs.Replacing.{replaceable}
-use Rattle.tui_textarea.specs.Selection.{selection_copied}
+use Rattle.tui_textarea.specs.Selection.{selection_copied, unselected}
 use Rattle.tui_textarea.specs.State.{State, with_other_lines}
 
 -- ---- read only
@@ -51,6 +51,10 @@ spaced (Character c) = Character c
 
 abbrev pub admitted : State → List Symbol → List Symbol
 admitted state symbols = if state.settings.single_line then map spaced symbols else symbols
+
+-- and of that what fits in place of the selected text
+abbrev pub admitted_over_selection : State → List Symbol → List Symbol
+admitted_over_selection state symbols = fitting (unselected state) (admitted state symbols)
 
 -- a text of several lines can't be a single line
 abbrev pub has_several_lines : State → Bool

@@ -1,11 +1,11 @@
 //! Insertions. Each but `duplicate_line` first removes the selected text, as its own edit, and then
 //! moves a cursor that is strictly inside an atomic range to the range's end. With grouping on, both
 //! edits are one group.
-ghost use Rattle.std.specs.Prelude.{◌≡◌, ◌<◌, OnOk, OnErr, IsOk, IfOk, true, false, [], replicate, vec_len, ◌&&◌, if◌then◌else◌};
+ghost use Rattle.std.specs.Prelude.{◌≡◌, ◌<◌, OnOk, OnErr, IsOk, IfOk, true, false, not, [], replicate, vec_len, ◌&&◌, if◌then◌else◌};
 ghost use Rattle.std.specs.Arc.{arc_value};
 ghost use Rattle.std.specs.Str.{chars};
 ghost use Rattle.textarea_document.specs.Selection.{first_selected_row, last_selected_row, lines_duplicated, with_lines_again};
-ghost use Rattle.tui_textarea.specs.Prelude.{Character, lines, with_document, text_of, has_symbols, is_selected, fragment_symbols, pasted_symbols, inserts_tab, inserts_text, symbols_or_none_inserted, spaces_to_stop, char_inserted, char_or_break_inserted, line_broken, newline_inserted, tab_inserted, tab_or_spaces_inserted, str_inserted, IsInsertOutOfMemory, selection_cancelled, unselected, admitted, bars_break, bars_character, is_editable, unless_read_only};
+ghost use Rattle.tui_textarea.specs.Prelude.{Character, lines, with_document, text_of, has_symbols, is_selected, fragment_symbols, pasted_symbols, inserts_tab, inserts_text, symbols_or_none_inserted, spaces_to_stop, char_inserted, char_or_break_inserted, line_broken, newline_inserted, tab_inserted, tab_or_spaces_inserted, str_inserted, IsInsertOutOfMemory, selection_cancelled, unselected, admitted, admitted_over_selection, bars_break, bars_character, bars_tab, fitting, is_editable, unless_read_only};
 
 use crate::textarea::TextArea;
 use std::alloc::{AllocError, Global};
@@ -99,7 +99,7 @@ impl TextArea<'_> {
     /// line; a carriage return directly before it is dropped.
     pub fn insert_str(&mut self, text: &str) -> Result<bool, AllocError>
         ensures inserted { IfOk result (λ inserted. inserted ≡ (is_editable self.old && inserts_text
-            self.old (fragment_symbols (chars text.now)))) }
+            self.old (admitted_over_selection self.old (fragment_symbols (chars text.now))))) }
         ensures ok { OnOk result (self.new ≡ unless_read_only self.old (str_inserted self.old (admitted self.old
             (fragment_symbols (chars text.now))))) }
         ensures err { OnErr result (IsInsertOutOfMemory self.old self.new) }
@@ -115,7 +115,8 @@ impl TextArea<'_> {
     // The same, whether the text area is read only or not.
     fn insert_str_unguarded(&mut self, text: &str) -> Result<bool, AllocError>
         ensures inserted { IfOk result
-            (λ inserted. inserted ≡ inserts_text self.old (fragment_symbols (chars text.now))) }
+            (λ inserted. inserted ≡ inserts_text self.old
+            (admitted_over_selection self.old (fragment_symbols (chars text.now)))) }
         ensures ok { OnOk result
             (self.new ≡ str_inserted self.old (admitted self.old
             (fragment_symbols (chars text.now)))) }
@@ -126,9 +127,10 @@ impl TextArea<'_> {
         if !has_text(text) {
             return self.insert_nothing();
         }
+        let removes = self.document.filled_selection().is_some();
         let fragment_lines = self.admitted_fragment(text)?;
-        self.insert_over_selection(fragment_lines)?;
-        Ok(true)
+        let inserts = self.insert_over_selection(fragment_lines)?;
+        Ok(removes || inserts)
     }
 
     /// Inserts a text that was pasted from outside, where `insert_str` inserts, and returns whether
@@ -136,7 +138,7 @@ impl TextArea<'_> {
     /// carriage return, or a carriage return and a line feed.
     pub fn insert_pasted(&mut self, text: &str) -> Result<bool, AllocError>
         ensures inserted { IfOk result (λ inserted. inserted ≡ (is_editable self.old && inserts_text
-            self.old (pasted_symbols (chars text.now)))) }
+            self.old (admitted_over_selection self.old (pasted_symbols (chars text.now))))) }
         ensures ok { OnOk result (self.new ≡ unless_read_only self.old (str_inserted self.old (admitted self.old
             (pasted_symbols (chars text.now))))) }
         ensures err { OnErr result (IsInsertOutOfMemory self.old self.new) }
@@ -152,7 +154,8 @@ impl TextArea<'_> {
     // The same, whether the text area is read only or not.
     fn insert_pasted_unguarded(&mut self, text: &str) -> Result<bool, AllocError>
         ensures inserted { IfOk result
-            (λ inserted. inserted ≡ inserts_text self.old (pasted_symbols (chars text.now))) }
+            (λ inserted. inserted ≡ inserts_text self.old
+            (admitted_over_selection self.old (pasted_symbols (chars text.now)))) }
         ensures ok { OnOk result
             (self.new ≡ str_inserted self.old (admitted self.old
             (pasted_symbols (chars text.now)))) }
@@ -170,7 +173,7 @@ impl TextArea<'_> {
     /// Inserts the yanked text where `insert_str` inserts, and returns whether there was any.
     pub fn paste(&mut self) -> Result<bool, AllocError>
         ensures inserted { IfOk result (λ inserted. inserted ≡ (is_editable self.old && has_symbols
-            self.old.yank)) }
+            (admitted_over_selection self.old self.old.yank))) }
         ensures ok { OnOk result (self.new ≡ unless_read_only self.old (str_inserted self.old (admitted self.old self.old.yank))) }
         ensures err { OnErr result (IsInsertOutOfMemory self.old self.new) }
         ensures nothing { (is_editable self.old && inserts_text self.old self.old.yank) ≡ false →
@@ -184,7 +187,8 @@ impl TextArea<'_> {
 
     // The same, whether the text area is read only or not.
     fn paste_unguarded(&mut self) -> Result<bool, AllocError>
-        ensures inserted { IfOk result (λ inserted. inserted ≡ has_symbols self.old.yank) }
+        ensures inserted { IfOk result (λ inserted. inserted ≡ has_symbols
+            (admitted_over_selection self.old self.old.yank)) }
         ensures ok { OnOk result (self.new ≡ str_inserted self.old (admitted self.old self.old.yank)) }
         ensures err { OnErr result (IsInsertOutOfMemory self.old self.new) }
         ensures nothing { inserts_text self.old self.old.yank ≡ false → IsOk result }
@@ -194,17 +198,16 @@ impl TextArea<'_> {
             return Ok(false);
         }
         let fragment_lines = self.admitted(self.yank.clone()?)?;
-        self.insert_over_selection(fragment_lines)?;
-        Ok(true)
+        self.insert_over_selection(fragment_lines)
     }
 
-    // Replaces the selected text by a fragment, and returns whether the fragment has a symbol.
+    // Replaces the selected text by what fits of a fragment, and returns whether that has a symbol.
     fn insert_over_selection(
         &mut self,
         fragment_lines: Arc<Vec<String>>,
     ) -> Result<bool, AllocError>
-        ensures inserted { IfOk result
-            (λ inserted. inserted ≡ has_symbols (text_of (arc_value fragment_lines).items)) }
+        ensures inserted { IfOk result (λ inserted. inserted ≡ has_symbols
+            (fitting (unselected self.old) (text_of (arc_value fragment_lines).items))) }
         ensures ok { OnOk result
             (self.new ≡ str_inserted self.old (text_of (arc_value fragment_lines).items)) }
         ensures err { OnErr result (IsInsertOutOfMemory self.old self.new) }
@@ -217,15 +220,28 @@ impl TextArea<'_> {
 
     // The same, without a group of its own.
     fn replace_by_fragment(&mut self, fragment_lines: Arc<Vec<String>>) -> Result<bool, AllocError>
-        ensures inserted { IfOk result
-            (λ inserted. inserted ≡ has_symbols (text_of (arc_value fragment_lines).items)) }
+        ensures inserted { IfOk result (λ inserted. inserted ≡ has_symbols
+            (fitting (unselected self.old) (text_of (arc_value fragment_lines).items))) }
         ensures ok { OnOk result
             (self.new ≡ symbols_or_none_inserted (unselected self.old)
             (text_of (arc_value fragment_lines).items)) }
         ensures err { OnErr result (IsInsertOutOfMemory self.old self.new) }
     {
         self.document.remove_selection(self.time)?;
-        self.document.insert(fragment_lines, self.time)
+        self.insert_fitting(fragment_lines)
+    }
+
+    // Inserts what fits of a fragment, and returns whether that has a symbol.
+    fn insert_fitting(&mut self, fragment_lines: Arc<Vec<String>>) -> Result<bool, AllocError>
+        requires some { 0 < vec_len (arc_value fragment_lines) }
+        ensures inserted { IfOk result (λ inserted. inserted
+            ≡ has_symbols (fitting self.old (text_of (arc_value fragment_lines).items))) }
+        ensures ok { OnOk result (self.new
+            ≡ symbols_or_none_inserted self.old (text_of (arc_value fragment_lines).items)) }
+        ensures err { OnErr result (self.new ≡ self.old) }
+    {
+        let fitting = self.fitting(fragment_lines, self.symbol_count())?;
+        self.document.insert(fitting, self.time)
     }
 
     /// Inserts the cursor's line once more below it, or the lines of the selection below the last of
@@ -264,13 +280,14 @@ impl TextArea<'_> {
     /// and returns whether it inserted something or removed a selection. With hard tabs that is a
     /// tab character, as typed, otherwise spaces up to the next tab stop; at tab length 0 nothing.
     pub fn insert_tab(&mut self) -> Result<bool, AllocError>
-        ensures inserted { IfOk result (λ inserted. inserted ≡ (is_editable self.old && inserts_tab
-            self.old)) }
-        ensures ok { OnOk result (self.new ≡ unless_read_only self.old (tab_inserted self.old)) }
+        ensures inserted { IfOk result
+            (λ inserted. inserted ≡ (not (bars_tab self.old) && inserts_tab self.old)) }
+        ensures ok { OnOk result
+            (self.new ≡ (if bars_tab self.old then self.old else tab_inserted self.old)) }
         ensures err { OnErr result (IsInsertOutOfMemory self.old self.new) }
-        ensures nothing { (is_editable self.old && inserts_tab self.old) ≡ false → IsOk result }
+        ensures nothing { (not (bars_tab self.old) && inserts_tab self.old) ≡ false → IsOk result }
     {
-        if self.read_only() {
+        if self.bars_tab() {
             return Ok(false);
         }
         self.insert_tab_unguarded()
@@ -332,7 +349,7 @@ impl TextArea<'_> {
         let line = self.document.lines()[row].as_str();
         let count = spaces_to_stop(line, column, tab_length);
         let fragment_lines = spaces_as_fragment(self.allocator(), count)?;
-        self.document.insert(fragment_lines, self.time)?;
+        self.insert_fitting(fragment_lines)?;
         Ok(())
     }
 

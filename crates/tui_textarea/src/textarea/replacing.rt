@@ -36,7 +36,7 @@ impl TextArea<'_> {
         text: &str,
     ) -> Result<bool, AllocError>
         ensures replaced { IfOk result (λ replaced. replaced ≡ (is_editable self.old && replaces
-            self.old.document.text from to (admitted self.old (fragment_symbols (chars text.now))))) }
+            self.old.document.text from to (fitting_between self.old from to (admitted self.old (fragment_symbols (chars text.now)))))) }
         ensures ok { OnOk result (self.new ≡ unless_read_only self.old (with_range_replaced self.old
             from to (admitted self.old (fragment_symbols (chars text.now))))) }
         ensures err { OnErr result (self.new ≡ self.old) }
@@ -56,7 +56,7 @@ impl TextArea<'_> {
         text: &str,
     ) -> Result<bool, AllocError>
         ensures replaced { IfOk result (λ replaced. replaced
-            ≡ replaces self.old.document.text from to (admitted self.old (fragment_symbols (chars text.now)))) }
+            ≡ replaces self.old.document.text from to (fitting_between self.old from to (admitted self.old (fragment_symbols (chars text.now))))) }
         ensures ok { OnOk result (self.new
             ≡ with_range_replaced self.old from to (admitted self.old (fragment_symbols (chars text.now)))) }
         ensures err { OnErr result (self.new ≡ self.old) }
