@@ -233,7 +233,6 @@ impl TextArea<'_> {
 
     // Inserts what fits of a fragment, and returns whether that has a symbol.
     fn insert_fitting(&mut self, fragment_lines: Arc<Vec<String>>) -> Result<bool, AllocError>
-        requires some { 0 < vec_len (arc_value fragment_lines) }
         ensures inserted { IfOk result (λ inserted. inserted
             ≡ has_symbols (fitting self.old (text_of (arc_value fragment_lines).items))) }
         ensures ok { OnOk result (self.new

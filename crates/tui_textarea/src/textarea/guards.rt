@@ -1,6 +1,6 @@
 //! What a text area leaves out: all edits while it is read only, line breaks while it has a single
 //! line, and what doesn't fit while it has a greatest number of characters.
-ghost use Rattle.std.specs.Prelude.{◌≡◌, ◌<◌, ◌≤◌, ◌&&◌, IfOk, length, map, not, string_bytes, vec_len};
+ghost use Rattle.std.specs.Prelude.{◌≡◌, ◌<◌, ◌≤◌, ◌&&◌, IfOk, length, map, not, string_bytes};
 ghost use Rattle.std.specs.Arc.{arc_value};
 ghost use Rattle.std.specs.Str.{chars};
 ghost use Rattle.textarea_text.specs.Text.{characters};
@@ -147,7 +147,6 @@ impl TextArea<'_> {
         fragment_lines: Arc<Vec<String>>,
         others: usize,
     ) -> Result<Arc<Vec<String>>, AllocError>
-        requires some { 0 < vec_len (arc_value fragment_lines) }
         ensures { IfOk result (λ fitting. text_of (arc_value fitting).items ≡ fitting_beside
             self.now.settings.max_chars others (text_of (arc_value fragment_lines).items)) }
     {
@@ -208,10 +207,12 @@ fn symbol_count(lines: &[String]) -> usize
 // Returns the longest beginning of a fragment that has so many symbols at most and ends with a
 // grapheme cluster of the fragment.
 fn beginning(alloc: Global, fragment_lines: &[String], most: usize) -> Result<Vec<String>, AllocError>
-    requires some { 0 < length fragment_lines.now }
     ensures { IfOk result (λ kept. text_of kept.items
         ≡ beginning (text_of fragment_lines.now) most) }
 {
+    if fragment_lines.is_empty() {
+        return Ok(Vec::new(alloc));
+    }
     let (row, column) = ahead(fragment_lines, (0, 0), most);
     let end = edge_back(line_of(fragment_lines, row), column);
     between(alloc, fragment_lines, (0, 0), (row, end))

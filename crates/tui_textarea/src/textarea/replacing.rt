@@ -56,12 +56,13 @@ impl TextArea<'_> {
         text: &str,
     ) -> Result<bool, AllocError>
         ensures replaced { IfOk result (λ replaced. replaced
-            ≡ replaces self.old.document.text from to (fitting_between self.old from to (admitted self.old (fragment_symbols (chars text.now))))) }
+            ≡ replaces self.old.document.text from to (fitting_between self.old from to
+            (admitted self.old (fragment_symbols (chars text.now))))) }
         ensures ok { OnOk result (self.new
             ≡ with_range_replaced self.old from to (admitted self.old (fragment_symbols (chars text.now)))) }
         ensures err { OnErr result (self.new ≡ self.old) }
     {
-        let fragment_lines = self.admitted_fragment(text)?;
+        let fragment_lines = self.fragment_between(from, to, text)?;
         self.document
             .replace_range(from, to, fragment_lines, self.time)
     }
@@ -157,6 +158,35 @@ impl TextArea<'_> {
         self.admitted(Arc::new(alloc, fragment_lines)?)
     }
 
+    // Returns what is inserted of the text in place of that between two positions, as a fragment.
+    fn fragment_between(
+        &self,
+        from: (usize, usize),
+        to: (usize, usize),
+        text: &str,
+    ) -> Result<Arc<Vec<String>>, AllocError>
+        ensures { IfOk result (λ fragment_lines. text_of (arc_value fragment_lines).items
+            ≡ fitting_between self.now from to (admitted self.now (fragment_symbols (chars text.now)))) }
+    {
+        let fragment_lines = self.admitted_fragment(text)?;
+        let others = self.symbol_count() - self.stretch_length(from, to)?;
+        self.fitting(fragment_lines, others)
+    }
+
+    // Returns the number of symbols between the positions that are nearest to these two.
+    fn stretch_length(
+        &self,
+        from: (usize, usize),
+        to: (usize, usize),
+    ) -> Result<usize, AllocError>
+        ensures { IfOk result
+            (λ count. count ≡ length (stretch_symbols self.now.document.text from to)) }
+    {
+        let (start, end) = self.document.stretch(from, to);
+        let removed = between(self.allocator(), self.document.lines(), start, end)?;
+        Ok(symbol_count(removed.as_slice()))
+    }
+
     // Returns the numbers of symbols before the start and before the end of each match that can be
     // replaced.
     fn replaceable(&self) -> Result<Vec<(usize, usize)>, AllocError>
@@ -186,7 +216,8 @@ impl TextArea<'_> {
         ensures err { OnErr result (self.new ≡ self.old) }
     {
         let (first, last) = found.columns;
-        let fragment_lines = self.admitted_fragment(text)?;
+        let fragment_lines =
+            self.fragment_between((found.row, first), (found.row, last), text)?;
         let copy = self.document.replaced(
             (found.row, first),
             (found.row, last),
