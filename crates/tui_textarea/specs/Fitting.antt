@@ -1,5 +1,5 @@
 -- What still fits into a text that has at most so many symbols.
-use Rattle.std.specs.Prelude.{ℕ, ◌+◌, ◌-◌, ◌*◌, ◌&&◌, Bool, List, Option, None, Some, drop, length, min, nat_le, not, take, false, true, [], ◌∷◌}
+use Rattle.std.specs.Prelude.{ℕ, ◌+◌, ◌-◌, ◌*◌, ◌&&◌, ◌||◌, Bool, List, Option, None, Some, drop, length, min, nat_le, not, take, false, true, [], ◌∷◌}
 use Rattle.textarea_clusters.specs.Edges.{edge_back}
 use Rattle.textarea_document.specs.Indenting.{line_stretches, tab_of}
 use Rattle.textarea_document.specs.Replacing.{stretch_symbols}
@@ -43,10 +43,10 @@ abbrev pub is_allowed : Option ℕ → ℕ → Bool
 is_allowed None count = true
 is_allowed (Some maximum) count = nat_le count maximum
 
--- so many symbols fit in place of so many others of the text
+-- so many symbols fit in place of so many others of the text: no more always do
 abbrev pub fits_for : State → ℕ → ℕ → Bool
 fits_for state removed inserted =
-    is_allowed state.settings.max_chars (length state.document.text - removed + inserted)
+    nat_le inserted removed || is_allowed state.settings.max_chars (length state.document.text - removed + inserted)
 
 -- no typed character fits; one that replaces a selected text always does
 abbrev pub is_full : State → Bool

@@ -5,7 +5,7 @@ ghost use Rattle.std.specs.Prelude.{◌≡◌, ◌<◌, OnOk, OnErr, IsOk, IfOk,
 ghost use Rattle.std.specs.Arc.{arc_value};
 ghost use Rattle.std.specs.Str.{chars};
 ghost use Rattle.textarea_document.specs.Selection.{first_selected_row, last_selected_row, lines_duplicated, with_lines_again};
-ghost use Rattle.tui_textarea.specs.Prelude.{Character, lines, with_document, text_of, has_symbols, is_selected, fragment_symbols, pasted_symbols, inserts_tab, inserts_text, symbols_or_none_inserted, spaces_to_stop, char_inserted, char_or_break_inserted, line_broken, newline_inserted, tab_inserted, tab_or_spaces_inserted, str_inserted, IsInsertOutOfMemory, selection_cancelled, unselected, admitted, admitted_over_selection, bars_break, bars_character, bars_tab, fitting, is_editable, unless_read_only};
+ghost use Rattle.tui_textarea.specs.Prelude.{Character, lines, with_document, text_of, has_symbols, is_selected, fragment_symbols, pasted_symbols, inserts_tab, inserts_text, symbols_or_none_inserted, spaces_to_stop, char_inserted, char_or_break_inserted, line_broken, newline_inserted, tab_inserted, tab_or_spaces_inserted, str_inserted, IsInsertOutOfMemory, selection_cancelled, unselected, admitted, admitted_over_selection, bars_break, bars_character, bars_duplicate, bars_tab, fitting, is_editable, unless_read_only};
 
 use crate::textarea::TextArea;
 use std::alloc::{AllocError, Global};
@@ -249,15 +249,15 @@ impl TextArea<'_> {
     /// ranges stay with the first lines, and the copy has none. What was yanked stays. After it the
     /// lines are those up to the last of these lines, and then those from the first of them on.
     pub fn duplicate_line(&mut self) -> Result<(), AllocError>
-        ensures ok { OnOk result (self.new ≡ (if bars_break self.old then self.old else (with_document self.old
+        ensures ok { OnOk result (self.new ≡ (if bars_duplicate self.old then self.old else (with_document self.old
             (lines_duplicated self.old.document self.old.time)))) }
         ensures err { OnErr result (self.new ≡ self.old) }
-        ensures lines { OnOk result (lines self.new.document.text ≡ (if bars_break self.old
+        ensures lines { OnOk result (lines self.new.document.text ≡ (if bars_duplicate self.old
             then lines self.old.document.text else with_lines_again (lines self.old.document.text)
             (first_selected_row self.old.document) (last_selected_row self.old.document))) }
-        ensures nothing { bars_break self.old ≡ true → IsOk result }
+        ensures nothing { bars_duplicate self.old ≡ true → IsOk result }
     {
-        if self.bars_break() {
+        if self.bars_duplicate() {
             return Ok(());
         }
         self.duplicate_line_unguarded()

@@ -1,12 +1,12 @@
 //! What a text area leaves out: all edits while it is read only, line breaks while it has a single
 //! line, and what doesn't fit while it has a greatest number of characters.
-ghost use Rattle.std.specs.Prelude.{◌≡◌, ◌<◌, ◌≤◌, ◌&&◌, IfOk, length, map, not, string_bytes};
+ghost use Rattle.std.specs.Prelude.{◌≡◌, ◌<◌, ◌≤◌, ◌&&◌, IfOk, length, map, nat_le, not, string_bytes};
 ghost use Rattle.std.specs.Arc.{arc_value};
 ghost use Rattle.std.specs.Str.{chars};
 ghost use Rattle.textarea_text.specs.Text.{characters};
-ghost use Rattle.tui_textarea.specs.Fitting.{beginning, fits_for, fitting_beside, is_full};
+ghost use Rattle.tui_textarea.specs.Fitting.{beginning, fits_duplicate, fits_each, fits_for, fits_indent, fitting_beside, is_full, removed_by};
 ghost use Rattle.tui_textarea.specs.Guards.{spaced};
-ghost use Rattle.tui_textarea.specs.Prelude.{admitted, bars_break, bars_character, bars_lines, has_several_lines, single_line_set, bars_tab, lines_of, size_limit, size_of, text_of};
+ghost use Rattle.tui_textarea.specs.Prelude.{admitted, bars_break, bars_character, bars_lines, has_several_lines, single_line_set, bars_duplicate, bars_tab, lines_of, size_limit, size_of, text_of};
 
 use crate::textarea::TextArea;
 use std::alloc::{AllocError, Global};
@@ -129,9 +129,52 @@ impl TextArea<'_> {
         ensures { result ≡ fits_for self.now 0 count }
     {
         match self.settings.max_chars {
-            Some(maximum) => count <= maximum && self.symbol_count() <= maximum - count,
+            Some(maximum) => count == 0 || count <= maximum && self.symbol_count() <= maximum - count,
             None => true,
         }
+    }
+
+    // Returns whether a duplicate of the lines is left out.
+    pub(super) fn bars_duplicate(&self) -> bool
+        ensures { result ≡ bars_duplicate self.now }
+    {
+        self.settings.single_line || !self.fits_duplicate() || self.settings.read_only
+    }
+
+    // Returns whether the selection's lines, or the cursor's line, fit once more.
+    fn fits_duplicate(&self) -> bool
+        ensures { result ≡ fits_duplicate self.now }
+    {
+        let (first, last) = self.document.selected_rows();
+        let lines = &self.document.lines()[first..=last];
+        self.fits(symbol_count(lines) + 1)
+    }
+
+    // Returns whether a tab fits at the start of each of these lines.
+    pub(super) fn fits_indent(&self) -> Result<bool, AllocError>
+        ensures { IfOk result (λ fits. fits ≡ fits_indent self.now) }
+    {
+        let stretches = self.document.line_stretches(false)?;
+        let columns = if self.settings.hard_tab_indent {
+            1
+        } else {
+            usize::from(self.document.layout_settings().tab_len)
+        };
+        Ok(self.fits(stretches.len() * columns))
+    }
+
+    // Returns whether the fragment fits in place of each of these stretches.
+    pub(super) fn fits_each(&self, stretches: &[(usize, usize)], fragment_lines: &[String]) -> bool
+        requires some { 0 < length stretches.now }
+        ensures { result ≡ fits_each self.now stretches.now (text_of fragment_lines.now) }
+    {
+        let Some(maximum) = self.settings.max_chars else {
+            return true;
+        };
+        let removed = removed_by(stretches);
+        let others = self.symbol_count().saturating_sub(removed);
+        let room = maximum.saturating_sub(others).max(removed);
+        has_at_most(fragment_lines, room / stretches.len())
     }
 
     // Returns the number of symbols of the text.
@@ -216,4 +259,37 @@ fn beginning(alloc: Global, fragment_lines: &[String], most: usize) -> Result<Ve
     let (row, column) = ahead(fragment_lines, (0, 0), most);
     let end = edge_back(line_of(fragment_lines, row), column);
     between(alloc, fragment_lines, (0, 0), (row, end))
+}
+
+// Returns the number of symbols in all these stretches.
+fn removed_by(stretches: &[(usize, usize)]) -> usize
+    ensures { result ≡ removed_by stretches.now }
+{
+    let mut removed = 0;
+    for stretch in stretches {
+        removed += stretch.1.saturating_sub(stretch.0);
+    }
+    removed
+}
+
+// Returns whether the fragment has so many symbols at most.
+fn has_at_most(fragment_lines: &[String], most: usize) -> bool
+    ensures { result ≡ nat_le (length (text_of fragment_lines.now)) most }
+{
+    let Some((first, rest)) = fragment_lines.split_first() else {
+        return true;
+    };
+    let count = column_count(first.as_str());
+    if most < count {
+        return false;
+    }
+    let mut left = most - count;
+    for fragment_line in rest {
+        let count = column_count(fragment_line.as_str()) + 1;
+        if left < count {
+            return false;
+        }
+        left -= count;
+    }
+    true
 }

@@ -116,10 +116,10 @@ impl TextArea<'_> {
     /// before, so nothing can be undone. `set_max_histories` with twice the number of matches makes
     /// room for them; since it forgets all edits, it is best called before the first one.
     pub fn replace_all(&mut self, text: &str) -> Result<usize, AllocError>
-        ensures count { IfOk result (λ count. count ≡ (if self.old.settings.read_only then 0 else
+        ensures count { IfOk result (λ count. count ≡ (if bars_each self.old text then 0 else
             length (replaceable self.old))) }
-        ensures ok { OnOk result (self.new ≡ unless_read_only self.old (matches_replaced self.old
-            (admitted self.old (fragment_symbols (chars text.now))))) }
+        ensures ok { OnOk result (self.new ≡ (if bars_each self.old text then self.old else matches_replaced
+            self.old (admitted self.old (fragment_symbols (chars text.now))))) }
         ensures err { OnErr result (self.new ≡ self.old) }
         ensures no_pattern { self.old.pattern ≡ None → IsOk result }
         ensures read_only { is_editable self.old ≡ false → IsOk result }
@@ -132,9 +132,11 @@ impl TextArea<'_> {
 
     // The same, whether the text area is read only or not.
     fn replace_all_unguarded(&mut self, text: &str) -> Result<usize, AllocError>
-        ensures count { IfOk result (λ count. count ≡ length (replaceable self.old)) }
-        ensures ok { OnOk result
-            (self.new ≡ matches_replaced self.old (admitted self.old (fragment_symbols (chars text.now)))) }
+        ensures count { IfOk result (λ count. count ≡ (if fits_each self.old (replaceable self.old)
+            (admitted self.old (fragment_symbols (chars text.now))) then length (replaceable self.old) else 0)) }
+        ensures ok { OnOk result (self.new ≡ (if fits_each self.old (replaceable self.old)
+            (admitted self.old (fragment_symbols (chars text.now))) then matches_replaced self.old
+            (admitted self.old (fragment_symbols (chars text.now))) else self.old)) }
         ensures err { OnErr result (self.new ≡ self.old) }
         ensures no_pattern { self.old.pattern ≡ None → IsOk result }
     {
@@ -143,6 +145,9 @@ impl TextArea<'_> {
             return Ok(0);
         }
         let fragment_lines = self.admitted_fragment(text)?;
+        if !self.fits_each(stretches.as_slice(), fragment_lines.as_slice()) {
+            return Ok(0);
+        }
         self.document
             .replace_all(stretches.as_slice(), &fragment_lines, self.time)?;
         Ok(stretches.len())
