@@ -110,6 +110,17 @@ class Calls(unittest.TestCase):
         self.assertTrue(area.insert_pasted("a\r\nb") and not area.input(Input.char("\n")))
         self.assertEqual(area.text, "a bone")
 
+    def test_max_chars(self):
+        area = TextArea("one")
+        self.assertIsNone(area.max_chars)
+        area.max_chars = 5
+        self.assertTrue(area.insert_str("a\u0301e\u0301") and area.text == "oneá")
+        area.insert_char("x")
+        self.assertEqual((area.text, area.max_chars), ("oneá", 5))
+        area.max_chars = None
+        area.insert_char("x")
+        self.assertEqual((area.text, area.max_chars), ("oneáx", None))
+
     def test_undo_groups(self):
         area = TextArea("one")
         self.assertFalse(area.undo_grouping)
