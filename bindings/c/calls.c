@@ -185,10 +185,10 @@ static void max_chars(void) {
     size_t most = 0;
     CHECK(ta_max_chars(&area, &most) == TA_FALSE && ta_set_max_chars(&area, 5) == TA_OK);
     CHECK(ta_max_chars(&area, &most) == TA_OK && most == 5);
-    CHECK(ta_insert_str(&area, TEXT("abc")) == TA_OK && has_lines(&area, "oneab\n"));
+    CHECK(ta_insert_str(&area, TEXT("abc")) == TA_OK && has_lines(&area, "abone\n"));
     CHECK(ta_insert_newline(&area) == TA_OK && ta_insert_tab(&area) == TA_FALSE);
-    CHECK(has_lines(&area, "oneab\n") && ta_clear_max_chars(&area) == TA_OK);
-    CHECK(ta_insert_newline(&area) == TA_OK && has_lines(&area, "oneab\n\n"));
+    CHECK(has_lines(&area, "abone\n") && ta_clear_max_chars(&area) == TA_OK);
+    CHECK(ta_insert_newline(&area) == TA_OK && has_lines(&area, "ab\none\n"));
     ta_free(&area);
 }
 
