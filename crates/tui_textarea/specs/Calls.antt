@@ -17,15 +17,14 @@ use Rattle.textarea_document.specs.Edits.{range_at_cursor, has_symbols}
 use Rattle.textarea_document.specs.Indenting.{indent_splices, lines_indented, lines_outdented, outdent_splices, shifts_lines}
 use Rattle.textarea_document.specs.Moving.{has_line_above, has_line_below, lines_moved_down, lines_moved_up, move_down_splices, move_up_splices}
 use Rattle.textarea_document.specs.Outcomes.{after_redo, run_ended, after_undo}
-use Rattle.textarea_document.specs.Replacing.{replaces, stretch_symbols}
+use Rattle.textarea_document.specs.Replacing.{range_splices, replaces, stretch_symbols}
 use Rattle.textarea_document.specs.Selection.{is_selected, lines_duplicated, selection_duplication}
 use Rattle.textarea_document.specs.Selection as document_selection
 use Rattle.textarea_document.specs.Splices.{after_splices, before_splices, break_splices, cursor_range_splices, redo_splices, selected_splices, undo_splices}
 use Rattle.tui_textarea.specs.State.{State, with_change_log, with_changes_taken, with_document, with_other_lines}
-use Rattle.tui_textarea.specs.Splices.{ahead_splices, char_splices, clear_splices, line_end_splices, line_head_splices, selected_splices_or, str_splices, tab_splices, typed_splices, word_after_splices, word_before_splices}
+use Rattle.tui_textarea.specs.Splices.{ahead_splices, char_splices, clear_splices, line_end_splices, line_head_splices, selected_splices_or, str_splices, tab_splices, word_after_splices, word_before_splices}
 use Rattle.tui_textarea.specs.Edits.{inserts_tab, inserts_text, char_inserted, newline_inserted, tab_inserted, str_inserted}
-use Rattle.tui_textarea.specs.Fitting.{fitting_between}
-use Rattle.tui_textarea.specs.Guards.{admitted, admitted_over_selection, barred_after, bars_break, bars_character, bars_duplicate, bars_each, bars_indent, bars_tab, has_several_lines, is_barred, is_editable, removable_range, single_line_set}
+use Rattle.tui_textarea.specs.Guards.{admitted, admitted_between, admitted_for, admitted_over_selection, barred_after, bars_break, bars_character, bars_duplicate, bars_each, bars_indent, bars_tab, has_several_lines, is_barred, is_editable, removable_range, single_line_set}
 use Rattle.tui_textarea.specs.Grouping.{typing_ended, undo_group_begun, undo_group_ended}
 use Rattle.tui_textarea.specs.Removals.{break_before_removed, text_cleared, has_ahead, has_before, has_after, has_break_before, has_line_before, has_line_after, has_word_before}
 use Rattle.tui_textarea.specs.Removals.{has_word_after, line_end_removed, line_head_removed, removes_or, symbol_before_removed, symbol_after_removed, symbols_ahead_removed}
@@ -43,7 +42,7 @@ use Rattle.tui_textarea.specs.Moves.{gone_to}
 use Rattle.tui_textarea.specs.Measure.{reads_rows, with_surround}
 use Rattle.tui_textarea.specs.Search.{match_count, match_index, next_match, previous_match, after_search, with_pattern, with_search_text}
 use Rattle.tui_textarea.specs.Patterns.{IsNewPattern}
-use Rattle.tui_textarea.specs.Replacing.{match_at_cursor, match_replaced, match_splices, matches_replaced, matches_splices, replaceable, state_range_splices, with_range_replaced}
+use Rattle.tui_textarea.specs.Replacing.{match_at_cursor, match_replaced, match_splices, matches_replaced, matches_splices, replaceable, with_range_replaced}
 use Rattle.tui_textarea.specs.Ranges.{cursor_normalized, atomic_range_removed, ranges_accepted, ranges_cleared}
 use Rattle.tui_textarea.specs.CallResults as reported
 use Rattle.tui_textarea.specs.CallResults.{CallResult, Done, Flag, Range, Rejected, Text}
@@ -73,7 +72,7 @@ result_of_call state call.IndentLines = Flag (not (bars_indent state) && shifts_
 result_of_call state call.OutdentLines = Flag (is_editable state && shifts_lines state.document true)
 result_of_call state call.MoveLinesUp = Flag (is_editable state && has_line_above state.document)
 result_of_call state call.MoveLinesDown = Flag (is_editable state && has_line_below state.document)
-result_of_call state (call.ReplaceRange from to text) = Flag (is_editable state && replaces state.document.text from to (fitting_between state from to (admitted state (fragment_symbols (chars text.now)))))
+result_of_call state (call.ReplaceRange from to text) = Flag (is_editable state && replaces state.document.text from to (admitted_between state from to (fragment_symbols (chars text.now))))
 result_of_call state (call.ReplaceMatch text) = Flag (is_editable state && is_some (match_at_cursor state))
 result_of_call state (call.ReplaceAll text) = reported.Number (if bars_each state text then 0 else length (replaceable state))
 result_of_call state call.InsertTab = Flag (not (bars_tab state) && inserts_tab state)
@@ -144,8 +143,8 @@ with_lines state lines cursor =
 -- the pattern is accepted. The states after moves, scrolls, inputs and drawings are defined elsewhere
 abbrev pub unguarded_after : State → Call → State
 unguarded_after state (call.InsertChar c) = char_inserted state c
-unguarded_after state (call.InsertStr text) = str_inserted state (admitted state (fragment_symbols (chars text.now)))
-unguarded_after state (call.InsertPasted text) = str_inserted state (admitted state (pasted_symbols (chars text.now)))
+unguarded_after state (call.InsertStr text) = str_inserted state (admitted_over_selection state (fragment_symbols (chars text.now)))
+unguarded_after state (call.InsertPasted text) = str_inserted state (admitted_over_selection state (pasted_symbols (chars text.now)))
 unguarded_after state call.InsertTab = tab_inserted state
 unguarded_after state call.InsertNewline = newline_inserted state
 unguarded_after state call.DuplicateLine = with_document state (lines_duplicated state.document state.time)
@@ -153,8 +152,8 @@ unguarded_after state call.IndentLines = with_document state (lines_indented sta
 unguarded_after state call.OutdentLines = with_document state (lines_outdented state.document state.time)
 unguarded_after state call.MoveLinesUp = with_document state (lines_moved_up state.document state.time)
 unguarded_after state call.MoveLinesDown = with_document state (lines_moved_down state.document state.time)
-unguarded_after state (call.ReplaceRange from to text) = with_range_replaced state from to (admitted state (fragment_symbols (chars text.now)))
-unguarded_after state (call.ReplaceMatch text) = match_replaced state (admitted state (fragment_symbols (chars text.now)))
+unguarded_after state (call.ReplaceRange from to text) = with_range_replaced state from to (admitted_between state from to (fragment_symbols (chars text.now)))
+unguarded_after state (call.ReplaceMatch text) = match_replaced state (admitted_for (match_at_cursor state) state (fragment_symbols (chars text.now)))
 unguarded_after state (call.ReplaceAll text) = matches_replaced state (admitted state (fragment_symbols (chars text.now)))
 unguarded_after state (call.DeleteStr count) = unselected_or state (symbols_ahead_removed state count)
 unguarded_after state call.DeleteNewline = unselected_or state (break_before_removed state)
@@ -167,7 +166,7 @@ unguarded_after state call.DeleteNextWord = unselected_or state (word_after_remo
 unguarded_after state call.Clear = text_cleared state
 unguarded_after state call.Cut = selection_cut state
 unguarded_after state call.Copy = selection_copied state
-unguarded_after state call.Paste = str_inserted state (admitted state state.yank)
+unguarded_after state call.Paste = str_inserted state (admitted_over_selection state state.yank)
 unguarded_after state call.Undo = with_document state (after_undo state.document)
 unguarded_after state call.Redo = with_document state (after_redo state.document)
 unguarded_after state (call.SetChangeLog unit) = with_change_log state unit
@@ -240,18 +239,18 @@ state_after state made = if is_barred state made then barred_after state made el
 -- has none. Those of inputs are defined elsewhere.
 abbrev pub unguarded_splices : State → Call → List Splice
 unguarded_splices state (call.InsertChar c) = char_splices state c
-unguarded_splices state (call.InsertStr text) = str_splices state (admitted state (fragment_symbols (chars text.now)))
-unguarded_splices state (call.InsertPasted text) = str_splices state (admitted state (pasted_symbols (chars text.now)))
+unguarded_splices state (call.InsertStr text) = str_splices state (admitted_over_selection state (fragment_symbols (chars text.now)))
+unguarded_splices state (call.InsertPasted text) = str_splices state (admitted_over_selection state (pasted_symbols (chars text.now)))
 unguarded_splices state call.InsertTab = tab_splices state
-unguarded_splices state call.InsertNewline = typed_splices state (Break ∷ [])
-unguarded_splices state call.Paste = str_splices state (admitted state state.yank)
+unguarded_splices state call.InsertNewline = str_splices state (Break ∷ [])
+unguarded_splices state call.Paste = str_splices state (admitted_over_selection state state.yank)
 unguarded_splices state call.DuplicateLine = selection_duplication state.document ∷ []
 unguarded_splices state call.IndentLines = indent_splices state.document state.settings.hard_tab_indent state.time
 unguarded_splices state call.OutdentLines = outdent_splices state.document state.time
 unguarded_splices state call.MoveLinesUp = move_up_splices state.document state.time
 unguarded_splices state call.MoveLinesDown = move_down_splices state.document state.time
-unguarded_splices state (call.ReplaceRange from to text) = state_range_splices state from to (admitted state (fragment_symbols (chars text.now)))
-unguarded_splices state (call.ReplaceMatch text) = match_splices state (admitted state (fragment_symbols (chars text.now)))
+unguarded_splices state (call.ReplaceRange from to text) = range_splices state.document from to (admitted_between state from to (fragment_symbols (chars text.now))) state.time
+unguarded_splices state (call.ReplaceMatch text) = match_splices state (admitted_for (match_at_cursor state) state (fragment_symbols (chars text.now)))
 unguarded_splices state (call.ReplaceAll text) = matches_splices state (admitted state (fragment_symbols (chars text.now)))
 unguarded_splices state (call.DeleteStr count) = selected_splices_or state.document (ahead_splices state.document count)
 unguarded_splices state call.DeleteNewline = selected_splices_or state.document (break_splices state.document)

@@ -7,6 +7,7 @@ use Rattle.textarea_document.specs.Selection.{first_selected_row, is_selected, l
 use Rattle.textarea_text.specs.Between.{symbols_between}
 use Rattle.textarea_text.specs.Place.{Place, line_of, place_of}
 use Rattle.textarea_text.specs.Text.{Symbol, following, lines}
+use Rattle.tui_textarea.specs.Selection.{unselected}
 use Rattle.tui_textarea.specs.State.{State}
 
 -- ---- a text that is cut
@@ -26,9 +27,15 @@ abbrev pub fitting_beside : Option ℕ → ℕ → List Symbol → List Symbol
 fitting_beside None others symbols = symbols
 fitting_beside (Some maximum) others symbols = beginning symbols (maximum - others)
 
--- what fits of it into the text as it is
-abbrev pub fitting : State → List Symbol → List Symbol
-fitting state symbols = fitting_beside state.settings.max_chars (length state.document.text) symbols
+-- what fits of it in place of the selected text
+abbrev pub fitting_selection : State → List Symbol → List Symbol
+fitting_selection state symbols =
+    fitting_beside state.settings.max_chars (length (unselected state).document.text) symbols
+
+-- so many spaces, as far as they fit into the text
+abbrev pub fitting_count : Option ℕ → ℕ → ℕ → ℕ
+fitting_count None others count = count
+fitting_count (Some maximum) others count = min count (maximum - others)
 
 -- what fits of it in place of the text between two positions
 abbrev pub fitting_between : State → Place → Place → List Symbol → List Symbol

@@ -1,6 +1,6 @@
 -- What the guards of a text area leave out of its calls: all edits while it is read only, and line
 -- breaks while it has a single line, and what doesn't fit while it has a greatest number of symbols.
-use Rattle.std.specs.Prelude.{◌&&◌, ◌||◌, ℕ, Bool, List, Option, None, length, map, nat_lt, not, true, false, if◌then◌else◌}
+use Rattle.std.specs.Prelude.{◌&&◌, ◌||◌, ℕ, Bool, List, Option, None, Some, length, map, nat_lt, not, true, false, if◌then◌else◌}
 use Rattle.std.specs.Borrow.{Bor}
 use Rattle.std.specs.Str.{chars}
 use Rattle.textarea_calls.specs.Edits.{edits}
@@ -11,13 +11,14 @@ use Rattle.textarea_data.specs.declared.range.AtomicRange.{AtomicRange}
 use Rattle.textarea_document.specs.DocumentState.{lines_replaced}
 use Rattle.textarea_document.specs.Edits.{range_at_cursor}
 use Rattle.textarea_history.specs.Log.{empty_log}
+use Rattle.textarea_search.specs.declared.search.text_matches.TextMatch.{TextMatch}
 use Rattle.textarea_text.specs.Fragment.{fragment_symbols}
 use Rattle.textarea_text.specs.Place.{Place}
 use Rattle.textarea_text.specs.Text.{Symbol, Break, Character, lines, lines_of}
 use Rattle.tui_textarea.specs.Edits.{breaks_line}
-use Rattle.tui_textarea.specs.Fitting.{fitting, fits_duplicate, fits_each, fits_indent, is_full}
-use Rattle.tui_textarea.specs.Replacing.{replaceable}
-use Rattle.tui_textarea.specs.Selection.{selection_copied, unselected}
+use Rattle.tui_textarea.specs.Fitting.{fitting_between, fitting_selection, fits_duplicate, fits_each, fits_indent, is_full}
+use Rattle.tui_textarea.specs.Replacing.{end_of_match, replaceable, start_of_match}
+use Rattle.tui_textarea.specs.Selection.{selection_copied}
 use Rattle.tui_textarea.specs.State.{State, with_other_lines}
 
 -- ---- read only
@@ -52,9 +53,17 @@ spaced (Character c) = Character c
 abbrev pub admitted : State → List Symbol → List Symbol
 admitted state symbols = if state.settings.single_line then map spaced symbols else symbols
 
--- and of that what fits in place of the selected text
+-- and of that what fits in place of the selected text, of that between two positions, or of the match
+-- at the cursor, if there is one
 abbrev pub admitted_over_selection : State → List Symbol → List Symbol
-admitted_over_selection state symbols = fitting (unselected state) (admitted state symbols)
+admitted_over_selection state symbols = fitting_selection state (admitted state symbols)
+
+abbrev pub admitted_between : State → Place → Place → List Symbol → List Symbol
+admitted_between state from to symbols = fitting_between state from to (admitted state symbols)
+
+abbrev pub admitted_for : Option TextMatch → State → List Symbol → List Symbol
+admitted_for None state symbols = symbols
+admitted_for (Some found) state symbols = admitted_between state (start_of_match found) (end_of_match found) symbols
 
 -- a text of several lines can't be a single line
 abbrev pub has_several_lines : State → Bool

@@ -9,7 +9,6 @@ use Rattle.textarea_search.specs.ColumnPairs.{match_column_pairs}
 use Rattle.textarea_search.specs.TextMatches.{matches_from}
 use Rattle.textarea_search.specs.declared.search.text_matches.TextMatch.{TextMatch}
 use Rattle.textarea_document.specs.Replacing.{all_replaced, all_splices, range_replaced, range_splices}
-use Rattle.tui_textarea.specs.Fitting.{fitting_between}
 use Rattle.tui_textarea.specs.Search.{after_search, next_match}
 use Rattle.tui_textarea.specs.State.{State, with_document}
 
@@ -67,10 +66,10 @@ end_of_match found = (found.row, found.columns.1)
 abbrev pub is_empty_match : TextMatch → Bool
 is_empty_match found = found.columns.0 == found.columns.1
 
--- the text between two positions is replaced by what fits of the symbols
+-- the text between two positions is replaced by the symbols
 abbrev pub with_range_replaced : State → Place → Place → List Symbol → State
 with_range_replaced state from to symbols =
-    with_document state (range_replaced state.document from to (fitting_between state from to symbols) state.time)
+    with_document state (range_replaced state.document from to symbols state.time)
 
 -- The match is replaced, if there is one, and the cursor moves to the next start of a match at or
 -- after what was inserted, or, if the match is empty, after it; without one it moves as a search
@@ -91,14 +90,10 @@ matches_replaced state symbols =
 
 -- ---- their splices
 
-abbrev pub state_range_splices : State → Place → Place → List Symbol → List Splice
-state_range_splices state from to symbols =
-    range_splices state.document from to (fitting_between state from to symbols) state.time
-
 abbrev pub match_splices_by : Option TextMatch → State → List Symbol → List Splice
 match_splices_by None state symbols = []
 match_splices_by (Some found) state symbols =
-    state_range_splices state (start_of_match found) (end_of_match found) symbols
+    range_splices state.document (start_of_match found) (end_of_match found) symbols state.time
 
 abbrev pub match_splices : State → List Symbol → List Splice
 match_splices state symbols = match_splices_by (match_at_cursor state) state symbols

@@ -1,5 +1,5 @@
 -- The splices of each edit, as functions of the state.
-use Rattle.std.specs.Prelude.{ℕ, ◌==◌, List, [], ◌∷◌, ◌++◌, length, nat_lt, replicate, if◌then◌else◌}
+use Rattle.std.specs.Prelude.{ℕ, ◌==◌, List, [], ◌∷◌, ◌++◌, length, nat_lt, if◌then◌else◌}
 use Rattle.textarea_text.specs.Place.{place_of}
 use Rattle.textarea_text.specs.Splice.{Splice}
 use Rattle.textarea_text.specs.Text.{Symbol, Break, Character}
@@ -8,8 +8,7 @@ use Rattle.textarea_document.specs.Selection.{is_selected}
 use Rattle.textarea_document.specs.Splices.{after_splices, break_splices, insertion_splices, range_splices_or, removal_splices, selected_splices}
 use Rattle.textarea_document.specs.DocumentState.{DocumentState}
 use Rattle.textarea_document.specs.Target.{word_end_after, word_start_before}
-use Rattle.tui_textarea.specs.Edits.{breaks_line, spaces_to_stop}
-use Rattle.tui_textarea.specs.Fitting.{fitting}
+use Rattle.tui_textarea.specs.Edits.{breaks_line, fitting_spaces}
 use Rattle.tui_textarea.specs.LayoutCalls.{tab_length}
 use Rattle.tui_textarea.specs.Removals.{cursor_line, in_line, index_ahead, is_at_line_end}
 use Rattle.tui_textarea.specs.Selection.{unselected}
@@ -18,25 +17,21 @@ use Rattle.tui_textarea.specs.State.{State}
 -- ---- insertions
 
 -- the removal of the selected text, and then the insertion of the symbols into the remaining text
-abbrev pub typed_splices : State → List Symbol → List Splice
-typed_splices state symbols =
-    selected_splices state.document ++ insertion_splices (unselected state).document symbols
-
--- the same with what fits of the symbols
 abbrev pub str_splices : State → List Symbol → List Splice
-str_splices state symbols = typed_splices state (fitting (unselected state) symbols)
+str_splices state symbols =
+    selected_splices state.document ++ insertion_splices (unselected state).document symbols
 
 -- a character, or the break that a line feed or a carriage return means
 abbrev pub char_splices : State → ℕ → List Splice
 char_splices state c =
-    if breaks_line c then typed_splices state (Break ∷ []) else typed_splices state (Character c ∷ [])
+    if breaks_line c then str_splices state (Break ∷ []) else str_splices state (Character c ∷ [])
 
 -- a tab: nothing at tab length 0, otherwise a tab character or the spaces to the next tab stop
 abbrev pub tab_splices : State → List Splice
 tab_splices state =
-    if tab_length state.document == 0 then typed_splices state []
-    else (if state.settings.hard_tab_indent then typed_splices state (Character 9 ∷ [])
-    else str_splices state (replicate (spaces_to_stop (unselected state).document (tab_length state.document)) (Character 32)))
+    if tab_length state.document == 0 then str_splices state []
+    else (if state.settings.hard_tab_indent then str_splices state (Character 9 ∷ [])
+    else str_splices state (fitting_spaces (unselected state) (tab_length state.document)))
 
 -- ---- removals
 

@@ -5,7 +5,7 @@ ghost use Rattle.std.specs.Prelude.{◌≡◌, ◌<◌, OnOk, OnErr, IsOk, IfOk,
 ghost use Rattle.std.specs.Arc.{arc_value};
 ghost use Rattle.std.specs.Str.{chars};
 ghost use Rattle.textarea_document.specs.Selection.{first_selected_row, last_selected_row, lines_duplicated, with_lines_again};
-ghost use Rattle.tui_textarea.specs.Prelude.{Character, lines, with_document, text_of, has_symbols, is_selected, fragment_symbols, pasted_symbols, inserts_tab, inserts_text, symbols_or_none_inserted, spaces_to_stop, char_inserted, char_or_break_inserted, line_broken, newline_inserted, tab_inserted, tab_or_spaces_inserted, str_inserted, IsInsertOutOfMemory, selection_cancelled, unselected, admitted, admitted_over_selection, bars_break, bars_character, bars_duplicate, bars_tab, fitting, is_editable, unless_read_only};
+ghost use Rattle.tui_textarea.specs.Prelude.{Character, lines, with_document, text_of, has_symbols, is_selected, fragment_symbols, pasted_symbols, inserts_tab, inserts_text, symbols_or_none_inserted, spaces_to_stop, char_inserted, char_or_break_inserted, line_broken, newline_inserted, tab_inserted, tab_or_spaces_inserted, str_inserted, IsInsertOutOfMemory, selection_cancelled, unselected, admitted_over_selection, bars_break, bars_character, bars_duplicate, bars_tab, fitting_selection, fitting_spaces, is_editable, unless_read_only};
 
 use crate::textarea::TextArea;
 use std::alloc::{AllocError, Global};
@@ -100,7 +100,7 @@ impl TextArea<'_> {
     pub fn insert_str(&mut self, text: &str) -> Result<bool, AllocError>
         ensures inserted { IfOk result (λ inserted. inserted ≡ (is_editable self.old && inserts_text
             self.old (admitted_over_selection self.old (fragment_symbols (chars text.now))))) }
-        ensures ok { OnOk result (self.new ≡ unless_read_only self.old (str_inserted self.old (admitted self.old
+        ensures ok { OnOk result (self.new ≡ unless_read_only self.old (str_inserted self.old (admitted_over_selection self.old
             (fragment_symbols (chars text.now))))) }
         ensures err { OnErr result (IsInsertOutOfMemory self.old self.new) }
         ensures nothing { (is_editable self.old && inserts_text self.old (fragment_symbols (chars
@@ -118,7 +118,7 @@ impl TextArea<'_> {
             (λ inserted. inserted ≡ inserts_text self.old
             (admitted_over_selection self.old (fragment_symbols (chars text.now)))) }
         ensures ok { OnOk result
-            (self.new ≡ str_inserted self.old (admitted self.old
+            (self.new ≡ str_inserted self.old (admitted_over_selection self.old
             (fragment_symbols (chars text.now)))) }
         ensures err { OnErr result (IsInsertOutOfMemory self.old self.new) }
         ensures nothing { inserts_text self.old (fragment_symbols (chars text.now)) ≡ false → IsOk
@@ -139,7 +139,7 @@ impl TextArea<'_> {
     pub fn insert_pasted(&mut self, text: &str) -> Result<bool, AllocError>
         ensures inserted { IfOk result (λ inserted. inserted ≡ (is_editable self.old && inserts_text
             self.old (admitted_over_selection self.old (pasted_symbols (chars text.now))))) }
-        ensures ok { OnOk result (self.new ≡ unless_read_only self.old (str_inserted self.old (admitted self.old
+        ensures ok { OnOk result (self.new ≡ unless_read_only self.old (str_inserted self.old (admitted_over_selection self.old
             (pasted_symbols (chars text.now))))) }
         ensures err { OnErr result (IsInsertOutOfMemory self.old self.new) }
         ensures nothing { (is_editable self.old && inserts_text self.old (pasted_symbols (chars
@@ -157,7 +157,7 @@ impl TextArea<'_> {
             (λ inserted. inserted ≡ inserts_text self.old
             (admitted_over_selection self.old (pasted_symbols (chars text.now)))) }
         ensures ok { OnOk result
-            (self.new ≡ str_inserted self.old (admitted self.old
+            (self.new ≡ str_inserted self.old (admitted_over_selection self.old
             (pasted_symbols (chars text.now)))) }
         ensures err { OnErr result (IsInsertOutOfMemory self.old self.new) }
         ensures nothing { inserts_text self.old (pasted_symbols (chars text.now)) ≡ false → IsOk
@@ -174,7 +174,7 @@ impl TextArea<'_> {
     pub fn paste(&mut self) -> Result<bool, AllocError>
         ensures inserted { IfOk result (λ inserted. inserted ≡ (is_editable self.old && has_symbols
             (admitted_over_selection self.old self.old.yank))) }
-        ensures ok { OnOk result (self.new ≡ unless_read_only self.old (str_inserted self.old (admitted self.old self.old.yank))) }
+        ensures ok { OnOk result (self.new ≡ unless_read_only self.old (str_inserted self.old (admitted_over_selection self.old self.old.yank))) }
         ensures err { OnErr result (IsInsertOutOfMemory self.old self.new) }
         ensures nothing { (is_editable self.old && inserts_text self.old self.old.yank) ≡ false →
             IsOk result }
@@ -189,7 +189,7 @@ impl TextArea<'_> {
     fn paste_unguarded(&mut self) -> Result<bool, AllocError>
         ensures inserted { IfOk result (λ inserted. inserted ≡ has_symbols
             (admitted_over_selection self.old self.old.yank)) }
-        ensures ok { OnOk result (self.new ≡ str_inserted self.old (admitted self.old self.old.yank)) }
+        ensures ok { OnOk result (self.new ≡ str_inserted self.old (admitted_over_selection self.old self.old.yank)) }
         ensures err { OnErr result (IsInsertOutOfMemory self.old self.new) }
         ensures nothing { inserts_text self.old self.old.yank ≡ false → IsOk result }
     {
@@ -207,9 +207,9 @@ impl TextArea<'_> {
         fragment_lines: Arc<Vec<String>>,
     ) -> Result<bool, AllocError>
         ensures inserted { IfOk result (λ inserted. inserted ≡ has_symbols
-            (fitting (unselected self.old) (text_of (arc_value fragment_lines).items))) }
-        ensures ok { OnOk result
-            (self.new ≡ str_inserted self.old (text_of (arc_value fragment_lines).items)) }
+            (fitting_selection self.old (text_of (arc_value fragment_lines).items))) }
+        ensures ok { OnOk result (self.new ≡ str_inserted self.old
+            (fitting_selection self.old (text_of (arc_value fragment_lines).items))) }
         ensures err { OnErr result (IsInsertOutOfMemory self.old self.new) }
     {
         let opens = self.begin_call();
@@ -221,24 +221,12 @@ impl TextArea<'_> {
     // The same, without a group of its own.
     fn replace_by_fragment(&mut self, fragment_lines: Arc<Vec<String>>) -> Result<bool, AllocError>
         ensures inserted { IfOk result (λ inserted. inserted ≡ has_symbols
-            (fitting (unselected self.old) (text_of (arc_value fragment_lines).items))) }
-        ensures ok { OnOk result
-            (self.new ≡ symbols_or_none_inserted (unselected self.old)
-            (text_of (arc_value fragment_lines).items)) }
+            (fitting_selection self.old (text_of (arc_value fragment_lines).items))) }
+        ensures ok { OnOk result (self.new ≡ symbols_or_none_inserted (unselected self.old)
+            (fitting_selection self.old (text_of (arc_value fragment_lines).items))) }
         ensures err { OnErr result (IsInsertOutOfMemory self.old self.new) }
     {
         self.document.remove_selection(self.time)?;
-        self.insert_fitting(fragment_lines)
-    }
-
-    // Inserts what fits of a fragment, and returns whether that has a symbol.
-    fn insert_fitting(&mut self, fragment_lines: Arc<Vec<String>>) -> Result<bool, AllocError>
-        ensures inserted { IfOk result (λ inserted. inserted
-            ≡ has_symbols (fitting self.old (text_of (arc_value fragment_lines).items))) }
-        ensures ok { OnOk result (self.new
-            ≡ symbols_or_none_inserted self.old (text_of (arc_value fragment_lines).items)) }
-        ensures err { OnErr result (self.new ≡ self.old) }
-    {
         let fitting = self.fitting(fragment_lines, self.symbol_count())?;
         self.document.insert(fitting, self.time)
     }
@@ -336,19 +324,18 @@ impl TextArea<'_> {
         self.insert_spaces(tab_length)
     }
 
-    // Inserts spaces from the insertion position up to the next tab stop.
+    // Inserts spaces from the insertion position up to the next tab stop, as many as fit.
     fn insert_spaces(&mut self, tab_length: u8) -> Result<(), AllocError>
         requires some { 0 < tab_length }
         ensures ok { OnOk result
-            (self.new ≡ symbols_or_none_inserted self.old
-            (replicate (spaces_to_stop self.old.document tab_length) (Character 32))) }
+            (self.new ≡ symbols_or_none_inserted self.old (fitting_spaces self.old tab_length)) }
         ensures err { OnErr result (self.new ≡ self.old) }
     {
         let (row, column) = self.document.insertion_place();
         let line = self.document.lines()[row].as_str();
-        let count = spaces_to_stop(line, column, tab_length);
+        let count = self.fitting_count(spaces_to_stop(line, column, tab_length));
         let fragment_lines = spaces_as_fragment(self.allocator(), count)?;
-        self.insert_fitting(fragment_lines)?;
+        self.document.insert(fragment_lines, self.time)?;
         Ok(())
     }
 

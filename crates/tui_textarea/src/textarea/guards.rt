@@ -4,7 +4,7 @@ ghost use Rattle.std.specs.Prelude.{◌≡◌, ◌<◌, ◌≤◌, ◌&&◌, IfO
 ghost use Rattle.std.specs.Arc.{arc_value};
 ghost use Rattle.std.specs.Str.{chars};
 ghost use Rattle.textarea_text.specs.Text.{characters};
-ghost use Rattle.tui_textarea.specs.Fitting.{beginning, fits_duplicate, fits_each, fits_for, fits_indent, fitting_beside, is_full, removed_by};
+ghost use Rattle.tui_textarea.specs.Fitting.{beginning, fits_duplicate, fits_each, fits_for, fits_indent, fitting_beside, fitting_count, is_full, removed_by};
 ghost use Rattle.tui_textarea.specs.Guards.{spaced};
 ghost use Rattle.tui_textarea.specs.Prelude.{admitted, bars_break, bars_character, bars_lines, has_several_lines, single_line_set, bars_duplicate, bars_tab, lines_of, size_limit, size_of, text_of};
 
@@ -182,6 +182,22 @@ impl TextArea<'_> {
         ensures { result ≡ length self.now.document.text }
     {
         symbol_count(self.document.lines())
+    }
+
+    // Returns how many of so many spaces fit.
+    pub(super) fn fitting_count(&self, count: u8) -> u8
+        ensures { result ≡ fitting_count self.now.settings.max_chars
+            (length self.now.document.text) count }
+    {
+        let Some(maximum) = self.settings.max_chars else {
+            return count;
+        };
+        let room = maximum.saturating_sub(self.symbol_count());
+        if room < usize::from(count) {
+            room as u8
+        } else {
+            count
+        }
     }
 
     // Returns what fits of the fragment beside so many other symbols.

@@ -3,7 +3,8 @@ ghost use Rattle.std.specs.Prelude.{◌≡◌, None, OnOk, OnErr, IsOk, IfOk, is
 ghost use Rattle.std.specs.Arc.{arc_value};
 ghost use Rattle.std.specs.Str.{chars};
 ghost use Rattle.textarea_document.specs.Replacing.{replaces, stretch_symbols};
-ghost use Rattle.tui_textarea.specs.Prelude.{fragment_symbols, fragment_text, text_of, admitted, is_editable, unless_read_only};
+ghost use Rattle.tui_textarea.specs.Prelude.{fragment_symbols, fragment_text, text_of, admitted, admitted_between, admitted_for, bars_each, is_editable, unless_read_only};
+ghost use Rattle.tui_textarea.specs.Fitting.{fits_each};
 ghost use Rattle.tui_textarea.specs.Replacing.{match_at_cursor, match_replaced, match_replaced_by, matches_replaced, replaceable, with_range_replaced};
 
 use crate::matches::{match_at, replaceable_in};
@@ -36,9 +37,9 @@ impl TextArea<'_> {
         text: &str,
     ) -> Result<bool, AllocError>
         ensures replaced { IfOk result (λ replaced. replaced ≡ (is_editable self.old && replaces
-            self.old.document.text from to (fitting_between self.old from to (admitted self.old (fragment_symbols (chars text.now)))))) }
+            self.old.document.text from to (admitted_between self.old from to (fragment_symbols (chars text.now))))) }
         ensures ok { OnOk result (self.new ≡ unless_read_only self.old (with_range_replaced self.old
-            from to (admitted self.old (fragment_symbols (chars text.now))))) }
+            from to (admitted_between self.old from to (fragment_symbols (chars text.now))))) }
         ensures err { OnErr result (self.new ≡ self.old) }
         ensures nothing { is_editable self.old ≡ false → IsOk result }
     {
@@ -56,10 +57,10 @@ impl TextArea<'_> {
         text: &str,
     ) -> Result<bool, AllocError>
         ensures replaced { IfOk result (λ replaced. replaced
-            ≡ replaces self.old.document.text from to (fitting_between self.old from to
-            (admitted self.old (fragment_symbols (chars text.now))))) }
+            ≡ replaces self.old.document.text from to (admitted_between self.old from to (fragment_symbols (chars text.now)))) }
         ensures ok { OnOk result (self.new
-            ≡ with_range_replaced self.old from to (admitted self.old (fragment_symbols (chars text.now)))) }
+            ≡ with_range_replaced self.old
+            from to (admitted_between self.old from to (fragment_symbols (chars text.now)))) }
         ensures err { OnErr result (self.new ≡ self.old) }
     {
         let fragment_lines = self.fragment_between(from, to, text)?;
@@ -76,7 +77,7 @@ impl TextArea<'_> {
         ensures replaced { IfOk result (λ replaced. replaced ≡ (is_editable self.old && is_some
             (match_at_cursor self.old))) }
         ensures ok { OnOk result (self.new ≡ unless_read_only self.old (match_replaced self.old
-            (admitted self.old (fragment_symbols (chars text.now))))) }
+            (admitted_for (match_at_cursor self.old) self.old (fragment_symbols (chars text.now))))) }
         ensures err { OnErr result (self.new ≡ self.old) }
         ensures no_pattern { self.old.pattern ≡ None → IsOk result }
         ensures read_only { is_editable self.old ≡ false → IsOk result }
@@ -92,7 +93,8 @@ impl TextArea<'_> {
         ensures replaced { IfOk result
             (λ replaced. replaced ≡ is_some (match_at_cursor self.old)) }
         ensures ok { OnOk result
-            (self.new ≡ match_replaced self.old (admitted self.old (fragment_symbols (chars text.now)))) }
+            (self.new ≡ match_replaced self.old
+            (admitted_for (match_at_cursor self.old) self.old (fragment_symbols (chars text.now)))) }
         ensures err { OnErr result (self.new ≡ self.old) }
         ensures no_pattern { self.old.pattern ≡ None → IsOk result }
     {
@@ -171,7 +173,7 @@ impl TextArea<'_> {
         text: &str,
     ) -> Result<Arc<Vec<String>>, AllocError>
         ensures { IfOk result (λ fragment_lines. text_of (arc_value fragment_lines).items
-            ≡ fitting_between self.now from to (admitted self.now (fragment_symbols (chars text.now)))) }
+            ≡ admitted_between self.now from to (fragment_symbols (chars text.now))) }
     {
         let fragment_lines = self.admitted_fragment(text)?;
         let others = self.symbol_count() - self.stretch_length(from, to)?;
@@ -217,7 +219,8 @@ impl TextArea<'_> {
     // Replaces the match, and moves the cursor to the next one.
     fn replace_found(&mut self, found: TextMatch, text: &str) -> Result<(), AllocError>
         ensures ok { OnOk result (self.new
-            ≡ match_replaced_by (Some found) self.old (admitted self.old (fragment_symbols (chars text.now)))) }
+            ≡ match_replaced_by (Some found) self.old
+            (admitted_for (Some found) self.old (fragment_symbols (chars text.now)))) }
         ensures err { OnErr result (self.new ≡ self.old) }
     {
         let (first, last) = found.columns;
