@@ -104,7 +104,7 @@ class Calls(unittest.TestCase):
     def test_single_line(self):
         area = TextArea("one\ntwo")
         self.assertFalse(area.single_line or area.set_single_line(True))
-        area.lines = ["one"]
+        area.set_lines(["one"])
         self.assertTrue(area.set_single_line(True) and area.single_line)
         area.insert_newline()
         self.assertTrue(area.insert_pasted("a\r\nb") and not area.input(Input.char("\n")))

@@ -1,9 +1,10 @@
 //! A text with a saved state. Its user can rely on it that `revert` gives exactly the text that was
 //! saved, whenever the undo history reaches back to it.
-ghost use Rattle.std.specs.Prelude.{◌≡◌, ◌↔◌, IfOk, IsTrue, OnOk, false};
+ghost use Rattle.std.specs.Prelude.{◌≡◌, ◌↔◌, IfOk, IsTrue, OnOk, true};
 ghost use Rattle.std.specs.Str.{chars};
 ghost use Rattle.textarea_text.specs.Text.{characters_of};
 ghost use Rattle.textarea_uses.specs.Save.{file_text};
+ghost use Rattle.tui_textarea.specs.Guards.{is_editable};
 ghost use Rattle.tui_textarea.specs.TextsBefore.{ReachesBack};
 
 use std::alloc::{AllocError, Global};
@@ -64,7 +65,7 @@ impl SavedText {
 
 // Undoes edits until the text is the wanted one, and returns whether it is.
 fn undo_to(area: &mut TextArea<'_>, wanted: &str) -> Result<bool, AllocError>
-    requires { area.old.settings.read_only ≡ false }
+    requires { is_editable area.old ≡ true }
     ensures reached { IfOk result (λ reached. IsTrue reached ↔
         ReachesBack area.old.document (chars wanted.now)) }
     ensures reverted { IfOk result (λ reached. IsTrue reached →

@@ -18,6 +18,7 @@ mod GroupsOfCalls
 mod ReplacedAtOnce
 mod UndoneTexts
 pub mod FragmentTexts
+pub mod Spaced
 pub mod Searches
 mod EachSymbol
 mod ActionTexts

@@ -1,17 +1,24 @@
--- Lines joined by spaces, as symbols.
+-- Symbols with a space for each break, and lines joined by spaces.
 use Rattle.std.proofs.Common.{◌≡◌, ℕ, ◌+◌, ◌<◌, List, [], ◌∷◌, ◌++◌, String, ap, arith, get_or, length, map, refl, take, ◌∙◌}
 use Rattle.std.specs.Prelude.{encode_utf8}
 use Rattle.std.specs.Str.{IsUtf8, chars}
 use Rattle.std.proofs.lemmas.Grind.{common_steps}
 use Rattle.std.proofs.lemmas.List.{append-nil, append_assoc, length-map, map-append, take_more}
 use Rattle.std.proofs.lemmas.Str.{chars-append, encode_ascii}
-use Rattle.textarea_text.specs.Text.{Character, characters, characters_of, following, lines_of, text_of}
+use Rattle.textarea_text.specs.Text.{Symbol, Character, characters, characters_of, following, lines_of, text_of}
 use Rattle.textarea_text.proofs.Splices.{characters-append, following-append}
-use Rattle.tui_textarea.specs.Guards.{spaced}
+use Rattle.tui_textarea.specs.Guards.{admitted, spaced}
+use Rattle.tui_textarea.specs.State.{State}
+use Rattle.tui_textarea.proofs.Cases.{by_test}
 
-spaced-characters : (cs : List ℕ) → map spaced (characters cs) ≡ characters cs
+pub spaced-characters : (cs : List ℕ) → map spaced (characters cs) ≡ characters cs
 spaced-characters [] = refl
 spaced-characters (c ∷ cs) = ap (λ t. Character c ∷ t) (spaced-characters cs)
+
+-- characters are inserted as they are
+pub admitted_characters : (state : State) (cs : List ℕ) → admitted state (characters cs) ≡ characters cs
+admitted_characters state cs =
+    by_test (λ (symbols : List Symbol). symbols ≡ characters cs) state.settings.single_line (map spaced (characters cs)) (characters cs) (λ single. spaced-characters cs) (λ several. refl)
 
 -- after `push` of a space
 pub chars_space : (bs new : List ℕ) → IsUtf8 bs → new ≡ bs ++ encode_utf8 32 → chars new ≡ chars bs ++ 32 ∷ []

@@ -167,7 +167,8 @@ pub extern "C" fn ta_outdent_lines(handle: &mut Handle, alloc: Global) -> u32
 // Replaces each match, writes their number, and returns the status.
 fn replace_matches(editor: &mut Editor, text: &str, count: &mut usize) -> u32
     ensures replaced { ChangesArea (unless_read_only editor.old.area
-        (matches_replaced editor.old.area (fragment_symbols (chars text.now)))) result editor.old editor.new }
+        (matches_replaced editor.old.area (admitted editor.old.area (fragment_symbols (chars text.now)))))
+        result editor.old editor.new }
     ensures value { result ≡ 0 → count.new
         ≡ (if editor.old.area.settings.read_only then 0 else length (replaceable editor.old.area)) }
     ensures no_pattern { editor.old.area.pattern ≡ None → result ≢ 2 }
