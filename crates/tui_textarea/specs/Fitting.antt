@@ -56,8 +56,8 @@ fits_for state removed inserted =
     nat_le inserted removed || is_allowed state.settings.max_chars (length state.document.text - removed + inserted)
 
 -- no typed character fits; one that replaces a selected text always does
-abbrev pub is_full : State → Bool
-is_full state = not (is_selected state.document) && not (fits_for state 0 1)
+abbrev pub has_no_room : State → Bool
+has_no_room state = not (is_selected state.document) && not (fits_for state 0 1)
 
 -- the selection's lines, or the cursor's line, fit once more
 abbrev pub fits_duplicate : State → Bool

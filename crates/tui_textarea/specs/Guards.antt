@@ -16,7 +16,7 @@ use Rattle.textarea_text.specs.Fragment.{fragment_symbols}
 use Rattle.textarea_text.specs.Place.{Place}
 use Rattle.textarea_text.specs.Text.{Symbol, Break, Character, lines, lines_of}
 use Rattle.tui_textarea.specs.Edits.{breaks_line}
-use Rattle.tui_textarea.specs.Fitting.{fitting_between, fitting_selection, fits_duplicate, fits_each, fits_indent, is_full}
+use Rattle.tui_textarea.specs.Fitting.{fitting_between, fitting_selection, fits_duplicate, fits_each, fits_indent, has_no_room}
 use Rattle.tui_textarea.specs.Replacing.{end_of_match, replaceable, start_of_match}
 use Rattle.tui_textarea.specs.Selection.{selection_copied}
 use Rattle.tui_textarea.specs.State.{State, with_other_lines}
@@ -88,9 +88,9 @@ SetsLines made = ⊥
 -- The call is left out of a text that can be edited: it would break a single line, or what it types
 -- doesn't fit, or what it inserts at several positions, or as lines, doesn't fit as a whole.
 abbrev pub is_left_out : State → Call → Bool
-is_left_out state (call.InsertChar c) = (breaks_line c && state.settings.single_line) || is_full state
-is_left_out state call.InsertNewline = state.settings.single_line || is_full state
-is_left_out state call.InsertTab = is_full state
+is_left_out state (call.InsertChar c) = (breaks_line c && state.settings.single_line) || has_no_room state
+is_left_out state call.InsertNewline = state.settings.single_line || has_no_room state
+is_left_out state call.InsertTab = has_no_room state
 is_left_out state call.DuplicateLine = state.settings.single_line || not (fits_duplicate state)
 is_left_out state call.IndentLines = not (fits_indent state)
 is_left_out state (call.ReplaceAll text) = not (fits_each state (replaceable state) (admitted state (fragment_symbols (chars text.now))))

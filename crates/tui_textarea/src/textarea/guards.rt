@@ -4,7 +4,7 @@ ghost use Rattle.std.specs.Prelude.{◌≡◌, ◌<◌, ◌≤◌, ◌&&◌, IfO
 ghost use Rattle.std.specs.Arc.{arc_value};
 ghost use Rattle.std.specs.Str.{chars};
 ghost use Rattle.textarea_text.specs.Text.{characters};
-ghost use Rattle.tui_textarea.specs.Fitting.{beginning, fits_duplicate, fits_each, fits_for, fits_indent, fitting_beside, fitting_count, is_full, removed_by};
+ghost use Rattle.tui_textarea.specs.Fitting.{beginning, fits_duplicate, fits_each, fits_for, fits_indent, fitting_beside, fitting_count, has_no_room, removed_by};
 ghost use Rattle.tui_textarea.specs.Guards.{spaced};
 ghost use Rattle.tui_textarea.specs.Prelude.{admitted, bars_break, bars_character, bars_lines, has_several_lines, single_line_set, bars_duplicate, bars_tab, lines_of, size_limit, size_of, text_of};
 
@@ -107,7 +107,7 @@ impl TextArea<'_> {
     pub(super) fn bars_tab(&self) -> bool
         ensures { result ≡ bars_tab self.now }
     {
-        self.is_full() || self.settings.read_only
+        self.has_no_room() || self.settings.read_only
     }
 
     // Returns whether other lines are left out.
@@ -118,8 +118,8 @@ impl TextArea<'_> {
     }
 
     // Returns whether no typed character fits.
-    fn is_full(&self) -> bool
-        ensures { result ≡ is_full self.now }
+    fn has_no_room(&self) -> bool
+        ensures { result ≡ has_no_room self.now }
     {
         self.document.filled_selection().is_none() && !self.fits(1)
     }
