@@ -129,7 +129,8 @@ impl TextArea<'_> {
         ensures { result ≡ fits_for self.now 0 count }
     {
         match self.settings.max_chars {
-            Some(maximum) => count == 0 || count <= maximum && self.symbol_count() <= maximum - count,
+            Some(maximum) => count == 0
+                || count <= maximum && self.symbol_count() <= maximum - count,
             None => true,
         }
     }
@@ -213,7 +214,11 @@ impl TextArea<'_> {
             return Ok(fragment_lines);
         };
         let alloc = self.allocator();
-        let kept = beginning(alloc, fragment_lines.as_slice(), maximum.saturating_sub(others))?;
+        let kept = beginning(
+            alloc,
+            fragment_lines.as_slice(),
+            maximum.saturating_sub(others),
+        )?;
         Ok(Arc::new(alloc, kept)?)
     }
 
@@ -265,7 +270,11 @@ fn symbol_count(lines: &[String]) -> usize
 
 // Returns the longest beginning of a fragment that has so many symbols at most and ends with a
 // grapheme cluster of the fragment.
-fn beginning(alloc: Global, fragment_lines: &[String], most: usize) -> Result<Vec<String>, AllocError>
+fn beginning(
+    alloc: Global,
+    fragment_lines: &[String],
+    most: usize,
+) -> Result<Vec<String>, AllocError>
     ensures { IfOk result (λ kept. text_of kept.items
         ≡ beginning (text_of fragment_lines.now) most) }
 {

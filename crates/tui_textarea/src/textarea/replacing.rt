@@ -181,11 +181,7 @@ impl TextArea<'_> {
     }
 
     // Returns the number of symbols between the positions that are nearest to these two.
-    fn stretch_length(
-        &self,
-        from: (usize, usize),
-        to: (usize, usize),
-    ) -> Result<usize, AllocError>
+    fn stretch_length(&self, from: (usize, usize), to: (usize, usize)) -> Result<usize, AllocError>
         ensures { IfOk result
             (λ count. count ≡ length (stretch_symbols self.now.document.text from to)) }
     {
@@ -224,8 +220,7 @@ impl TextArea<'_> {
         ensures err { OnErr result (self.new ≡ self.old) }
     {
         let (first, last) = found.columns;
-        let fragment_lines =
-            self.fragment_between((found.row, first), (found.row, last), text)?;
+        let fragment_lines = self.fragment_between((found.row, first), (found.row, last), text)?;
         let copy = self.document.replaced(
             (found.row, first),
             (found.row, last),
