@@ -16,7 +16,7 @@ use Rattle.tui_textarea.specs.State.{State}
 use Rattle.tui_textarea.proofs.Acting.{the_call}
 use Rattle.tui_textarea.proofs.Unedited.{SameText, copied, text, unedited}
 
-IsReadOnly : State → Type 0
+abbrev IsReadOnly : State → Type 0
 IsReadOnly state = state.settings.read_only ≡ true
 
 or_right : (a b : Bool) → b ≡ true → (a || b) ≡ true

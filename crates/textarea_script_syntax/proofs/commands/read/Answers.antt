@@ -11,9 +11,10 @@ use Rattle.textarea_script_syntax.specs.declared.commands.Command.{Command}
 use Rattle.textarea_script_syntax.proofs.Lines.{all_meanings, meanings_of_lines-empty, meanings_of_lines-filled}
 use Rattle.textarea_script_syntax.proofs.Scripts.{IsTurn, names_line, turn_at, filled_lines-empty, filled_lines-filled}
 use Rattle.textarea_script_syntax.proofs.commands.read.Goals as goal
+use Rattle.textarea_script_syntax.proofs.commands.read.Goals.{After-is_empty}
 
 -- the line of a turn
-line_turn : (c : goal.After-is_empty) → IsTurn (lines_of_script c.args.script.now) (length c.loop-index.yielded) c.in-Some.index c.in-Some.line.now
+line_turn : (c : After-is_empty) → IsTurn (lines_of_script c.args.script.now) (length c.loop-index.yielded) c.in-Some.index c.in-Some.line.now
 line_turn c =
     let t = YieldsList-turn (YieldsList-from_enumerate {s = c.into_iter-index-iterator.result}
     (YieldsList-at (cc) (YieldsList-from_slice_split {s = c.split.result} _ (λ byte. byte == 10) c.args.script.now c.split.ensures.rest c.split.ensures.done c.split.ensures.closure

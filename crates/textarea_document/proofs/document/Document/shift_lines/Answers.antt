@@ -6,9 +6,10 @@ use Rattle.textarea_document.specs.Replacing.{all_replaced}
 use Rattle.textarea_document.proofs.IndentedTexts.{shifted_lines}
 use Rattle.textarea_document.proofs.Indenting.{none_shifted, shifted_as}
 use Rattle.textarea_document.proofs.document.Document.shift_lines.Goals as goal
+use Rattle.textarea_document.proofs.document.Document.shift_lines.Goals.{After-is_empty, After-move_near}
 
 -- without a stretch the document is the one after it
-none : (c : goal.After-is_empty) → c.is_empty.result ≡ true → c.args.self.now ≡ lines_shifted c.args.self.now c.args.outdents (chars c.args.tab.now) (as_nanos c.args.now)
+none : (c : After-is_empty) → c.is_empty.result ≡ true → c.args.self.now ≡ lines_shifted c.args.self.now c.args.outdents (chars c.args.tab.now) (as_nanos c.args.now)
 none c empty =
     let found = c.in_ok-stretches.stretches in
     let counted : length found.items ≡ vec_len found = omega (arith, found.ok) in
@@ -23,7 +24,7 @@ returns-then-is_empty-clause-lines c =
     ∙ shifted_lines c.args.self.now c.args.outdents (chars c.args.tab.now) (as_nanos c.args.now) c.is_sound.ensures
 
 -- the last step makes the document the one after it
-made : (c : goal.After-move_near) → c.move_near.new.self ≡ lines_shifted c.args.self.now c.args.outdents (chars c.args.tab.now) (as_nanos c.args.now)
+made : (c : After-move_near) → c.move_near.new.self ≡ lines_shifted c.args.self.now c.args.outdents (chars c.args.tab.now) (as_nanos c.args.now)
 made c =
     let document = c.args.self.now in
     let found = c.in_ok-stretches.stretches in
