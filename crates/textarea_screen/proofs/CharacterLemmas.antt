@@ -1,6 +1,6 @@
 -- Characters that are written into a row one after another.
 use Rattle.std.proofs.Common.{◌≡◌, ◌⊎◌, ℕ, suc, ◌+◌, ◌*◌, ◌<◌, ◌≤◌, true, List, [], ◌∷◌, ◌++◌, length, refl, sym, ap, ◌∙◌, arith}
-use native.Mathlib.Numerals.{unary_clauses}
+use Rattle.std.proofs.Math.Nat.{suc-mul}
 use Rattle.std.proofs.lemmas.List.{append_assoc, length-append}
 use Rattle.std.specs.Prelude.{encode_utf8}
 use Rattle.std.specs.Str.{chars}
@@ -29,9 +29,7 @@ putting-start from row to columns style text buffer fits = record {
 
 -- the column after one more
 column-after : (from columns count : ℕ) → from + suc count * columns ≡ (from + columns) + count * columns
-column-after from columns count =
-    let next : suc count * columns ≡ columns + count * columns = simp unary_clauses (omega arith) in
-    omega (arith, next)
+column-after from columns count = omega (arith, suc-mul count columns)
 
 -- one character more, after the others
 one_after : (from row columns c : ℕ) (front : List ℕ) (style : Style) (x y : ℕ) (cell : CellView) →

@@ -1,4 +1,4 @@
-use Rattle.std.proofs.Common.{◌≡◌, ◌+◌, ◌++◌, ◌∷◌, [], inl, inr, ap, sym, ◌∙◌, arith, rules}
+use Rattle.std.proofs.Common.{◌≡◌, ◌+◌, ◌++◌, ◌∷◌, [], inl, inr, ap, length, sym, ◌∙◌, arith, rules}
 use Rattle.std.proofs.lemmas.List.{nil_from_length}
 use Rattle.std.proofs.lemmas.Str.{chars-nil, chars_past_char}
 use Rattle.std.specs.Prelude.{encode_utf8}
@@ -49,6 +49,6 @@ returns c =
       put = elim c.characters-test.branch [
         | else-characters-test w ↦ put-all put (inr (omega (arith, put.fits, w.characters-test.false)))
         | then-characters-test+in_default w ↦
-            put-all put (inl (ap chars (nil_from_length c.characters.rest.now (cc (w.in_default.ensures.steps.0, w.chars-characters.ensures.rest))) ∙ chars-nil))
+            put-all put (inl (ap chars (nil_from_length c.characters.rest.now (ap length (sym w.chars-characters.ensures.rest) ∙ w.in_default.ensures.steps.0.0)) ∙ chars-nil))
       ];
     }
