@@ -1,5 +1,6 @@
 -- Letters that are put into the cells of a row at once.
 use Rattle.std.proofs.Common.{◌≡◌, ◌⊎◌, inl, inr, ℕ, suc, ◌+◌, ◌-◌, ◌*◌, ◌<◌, ◌≤◌, ◌==◌, min, nat_le, Bool, true, eqb, List, [], ◌∷◌, ◌++◌, length, map, refl, sym, ap, subst, ◌∙◌, arith}
+use Rattle.std.proofs.Math.Nat.{suc-mul}
 use Rattle.std.proofs.lemmas.Bool.{and_parts, eqb-true}
 use Rattle.std.proofs.lemmas.Bool.Decides.{nat_tests}
 use Rattle.std.proofs.lemmas.List.{length-append, map-append}
@@ -43,10 +44,10 @@ pen-moved cells left column x more at within = record {
   x = omega (arith, at.hidden, at.x, within);
 }
 
-split_all : {P : ℕ → Type 0} (front rest : List ℕ) → AllByRecursion P (front ++ rest) → AllByRecursion P front × AllByRecursion P rest
-split_all [] rest all = (tt, all)
-split_all (c ∷ front) rest all =
-    let others = split_all front rest all.1 in
+split_all : (P : ℕ → Type 0) (front rest : List ℕ) → AllByRecursion P (front ++ rest) → AllByRecursion P front × AllByRecursion P rest
+split_all P [] rest all = (tt, all)
+split_all P (c ∷ front) rest all =
+    let others = split_all P front rest all.1 in
     ((all.0, others.0), others.1)
 
 tail-scalars : (c : ℕ) (cs : List ℕ) → all_scalars (c ∷ cs) ≡ true → all_scalars cs ≡ true
@@ -54,9 +55,9 @@ tail-scalars c cs scalars = grind (arith, nat_tests)
 
 letters-width : (style : Style) (columns : ℕ) (letters : List ℕ) → AllByRecursion (IsLetter columns) letters → all_scalars letters ≡ true →
     clusters_width (clusters_of style letters) ≡ length letters * columns
-letters-width style columns [] all scalars = refl
+letters-width style columns [] all scalars = omega arith
 letters-width style columns (c ∷ letters) all scalars =
-    let next : suc (length letters) * columns ≡ columns + length letters * columns = refl in
+    let next = suc-mul (length letters) columns in
     omega (
       arith,
       next,
@@ -75,7 +76,7 @@ letters-row : (cells : RowCells) (style : Style) (columns left column from : ℕ
 letters-row cells style columns left column from [] all scalars at within x y cell = sym (row_change-nil cells left x y cell)
 letters-row cells style columns left column from (c ∷ letters) all scalars at within x y cell =
     let cluster = in_style style (encode_utf8 c) in
-    let next : suc (length letters) * columns ≡ columns + length letters * columns = refl in
+    let next = suc-mul (length letters) columns in
     let width : columns_of (encode_utf8 c) ≡ columns = columns-letter columns c (first-scalar c letters scalars) all.0 in
     let put = wide_change from cells.y (from + columns) (encode_utf8 c) true style x y cell in
     let first : put ≡ row_change cells left (placed_at column cluster ∷ []) x y cell =
@@ -140,7 +141,7 @@ pub walk-put : {cells : RowCells} {style : Style} {columns column to : ℕ} {pen
     IsLetterWalk cells style columns pen (pen_at column) text rest old new
 walk-put {cells} {style} {columns} {column} {to} {pen} {text} {rest} {old} {new} utf8 letters hidden within room put =
     let none : pen ≡ pen_at pen.x = ap (λ n. record { hidden = n; x = pen.x }) hidden in
-    let split = split_all {P = IsLetter columns} put.front (chars rest) (subst (AllByRecursion (IsLetter columns)) put.parts letters) in
+    let split = split_all (IsLetter columns) put.front (chars rest) (subst (AllByRecursion (IsLetter columns)) put.parts letters) in
     let scalars : all_scalars put.front ≡ true = front_scalars put.front (chars rest) (ap all_scalars (sym put.parts) ∙ scalars-chars text utf8) in
     let front = clusters_of style put.front in
     let width : clusters_width front ≡ length put.front * columns = letters-width style columns put.front split.0 scalars in

@@ -101,7 +101,7 @@ walk-then {cells} {style} {columns} {start} {pen} {moved} {text} {rest} {after} 
 -- the pen is at some column of a row also after a walk
 pub walk-any : {cells : RowCells} {style : Style} {columns : ℕ} {start pen : Pen} {text rest : List ℕ} {old now : Buffer} →
     IsLetterWalk cells style columns start pen text rest old now → IsAnyPen cells start → IsAnyPen cells pen
-walk-any walk any = (any.0, (any.1 + clusters_width walk.front, walk.at any.0 any.1 any.2))
+walk-any walk any = (any.0, any.1 + clusters_width walk.front, walk.at any.0 any.1 any.2)
 
 -- all letters are drawn
 pub walk-all : {cells : RowCells} {style : Style} {columns : ℕ} {start pen : Pen} {text rest : List ℕ} {old now : Buffer} →

@@ -126,7 +126,13 @@ fn draw_first_letters<'a>(
     if is_room_at(buffer, cells, pen, columns) {
         let end = visible_end(buffer, cells);
         let put = buffer.put_characters(pen.x, cells.y, end, letters, columns as u16, style);
-        return Ok((Pen { hidden: 0, x: put.0 }, put.1));
+        return Ok((
+            Pen {
+                hidden: 0,
+                x: put.0,
+            },
+            put.1,
+        ));
     }
     let (text, after) = split_letter(letters);
     let letter = StyledCluster { text, style };

@@ -1,4 +1,4 @@
-use Rattle.std.proofs.Common.{◌≡◌, [], ap, sym, subst, ◌∙◌, ◌+◌, arith, rules}
+use Rattle.std.proofs.Common.{◌≡◌, [], ℕ, zero, suc, ◌<◌, ◌==◌, true, false, length, ap, sym, subst, ◌∙◌, ◌+◌, arith, rules}
 use Rattle.std.proofs.lemmas.Bool.{eqb-true}
 use Rattle.std.proofs.lemmas.List.{nil_from_length}
 use Rattle.std.specs.Prelude.{length}
@@ -8,6 +8,11 @@ use Rattle.textarea_paint.specs.Cells.{IsPenAt, place_from, row_change}
 use Rattle.textarea_paint.specs.Row.{clusters_width}
 use Rattle.textarea_paint.proofs.LetterRowLemmas.{on_err, walk-all, walk-any, walk-outside, walk-start, walk-then}
 use Rattle.textarea_paint.proofs.paint.cells.draw_letters.Goals as goal
+
+-- a text that isn't empty has a byte
+some_left : (n : ℕ) → false ≡ (n == 0) → 0 < n
+some_left zero e = absurd (let no : false ≡ true = e in cc)
+some_left (suc n) e = omega arith
 
 pub letters-init : goal.letters-init
 letters-init c = record {
@@ -44,7 +49,7 @@ returns-clause-drawn c = λ left column at.
 
 pub draw_first_letters-requires : goal.draw_first_letters-requires
 draw_first_letters-requires c = record {
-  some = search rules;
+  some = some_left (length c.letters.rest.now) c.letters-test.ensures;
   edge = c.requires.edge;
   within = c.letters.invariant.walk.within;
   letters = c.letters.invariant.walk.letters;
