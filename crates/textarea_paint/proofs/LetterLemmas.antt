@@ -14,7 +14,7 @@ use Rattle.textarea_paint.specs.Columns.{char_columns, columns_of}
 use Rattle.textarea_paint.specs.Letters.{AreBetween, AreLetters, BeginsWithLetter, IsAfterLetters, IsFirstLetter, IsLetter, letter_texts, letter_columns}
 use Rattle.textarea_paint.specs.Letters.{european_letters, ideographs, is_narrow, is_wide, other_narrow_letters, other_wide_letters}
 use Rattle.textarea_paint.specs.Simple.{begins_apart, early_ranges, is_flag_half, is_simple, late_ranges}
-use Rattle.textarea_paint.proofs.SimpleLemmas.{columns-simple, early_stepped, graphemes-simple, late_stepped}
+use Rattle.textarea_paint.proofs.SimpleLemmas.{columns-scalar, columns-simple, early_stepped, graphemes-simple, late_stepped}
 use Rattle.ucd_table.specs.Rows.{in_ranges}
 use Rattle.ucd_table.proofs.Computing.{tables}
 use Rattle.ucd_table.proofs.Facts.{Stepped-everywhere}
@@ -265,7 +265,7 @@ chars-letters (c ∷ letters) text after utf8 is =
     let first : text ≡ encode_utf8 c ++ rest = is ∙ append_assoc (encode_utf8 c) (encode_utf8_all letters) after in
     chars_past_char text rest c utf8 first ∙ ap (λ cs. c ∷ cs) (chars-letters letters rest after (IsUtf8-past_char text rest c utf8 first) refl)
 
-front_scalars : (cs ds : List ℕ) → all_scalars (cs ++ ds) ≡ true → all_scalars cs ≡ true
+pub front_scalars : (cs ds : List ℕ) → all_scalars (cs ++ ds) ≡ true → all_scalars cs ≡ true
 front_scalars [] ds all = refl
 front_scalars (c ∷ cs) ds all = grind (arith, nat_tests, front_scalars cs ds)
 
@@ -333,6 +333,12 @@ module _ {columns most : ℕ} {text after : List ℕ} (utf8 : IsUtf8 text) (b : 
       ∙ ap (λ (t : List ℕ). t ∷ []) (sym (is_front ∙ taken))
 
 -- ---- the first letter of a text
+
+-- a letter takes its columns
+pub columns-letter : (columns c : ℕ) → all_scalars (c ∷ []) ≡ true → IsLetter columns c → columns_of (encode_utf8 c) ≡ columns
+columns-letter columns c scalar letter =
+    let some : 0 < letter_columns c = subst (λ n. 0 < n) (sym letter.1) letter.0 in
+    columns-scalar c scalar (letter-simple c some) ∙ letter-columns c some ∙ letter.1
 
 pub first-letter : (text letter after : List ℕ) (c : ℕ) → IsUtf8 text → text ≡ encode_utf8 c ++ after → letter ≡ encode_utf8 c → IsFirstLetter text letter after
 first-letter text letter after c utf8 is letter_is = record {

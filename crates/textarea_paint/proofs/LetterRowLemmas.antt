@@ -14,6 +14,7 @@ use Rattle.textarea_screen.proofs.ChangeLemmas.{Changes-none, Changes-then, Keep
 use Rattle.textarea_paint.specs.Cells.{IsAnyPen, IsColumnWithin, IsPenAt, is_in_cells, place_from, placed_at, row_change}
 use Rattle.textarea_paint.specs.Clusters.{AreInline, Cluster, in_style, letter_clusters}
 use Rattle.textarea_paint.specs.Columns.{columns_of}
+use Rattle.textarea_paint.specs.LetterWalk.{IsLetterWalk}
 use Rattle.textarea_paint.specs.Letters.{AreLetters, IsFirstLetter, IsLetter}
 use Rattle.textarea_paint.specs.Row.{clusters_width}
 use Rattle.textarea_paint.specs.declared.paint.cells.Pen.{Pen}
@@ -22,16 +23,6 @@ use Rattle.textarea_paint.proofs.CellLemmas.{row_change-nil, row_change-outside}
 use Rattle.textarea_paint.proofs.ClusterLemmas.{AreInline-tail}
 use Rattle.textarea_paint.proofs.PartLemmas.{clusters_width-append}
 use Rattle.textarea_paint.proofs.RowLemmas.{row_change-append}
-
--- the letters of `text` but those of `rest` are drawn, from the pen `start` on
-pub record IsLetterWalk (cells : RowCells) (style : Style) (columns : ℕ) (start pen : Pen) (text rest : List ℕ) (old now : Buffer) : Type 0 where
-  pub front : List Cluster
-  pub parts : letter_clusters style text ≡ front ++ letter_clusters style rest
-  pub at : (left column : ℕ) → IsPenAt cells left column start → IsPenAt cells left (column + clusters_width front) pen
-  pub drawn : (left column : ℕ) → IsPenAt cells left column start → Changes old now (row_change cells left (place_from column front))
-  pub within : IsColumnWithin cells pen.x
-  pub letters : AreLetters columns rest
-  pub short : AreInline (letter_clusters style text) → AreInline (letter_clusters style rest)
 
 pub walk-start : (cells : RowCells) (style : Style) (columns : ℕ) (start : Pen) (text : List ℕ) (buffer : Buffer) → IsColumnWithin cells start.x → AreLetters columns text →
     IsLetterWalk cells style columns start start text text buffer buffer
@@ -84,6 +75,33 @@ walk-next {cells} {style} {columns} {start} {pen} {moved} {text} {rest} {letter}
       letters = (subst (AllByRecursion (IsLetter columns)) f.chars_are walk.letters).1;
       short = λ short. AreInline-tail cluster clusters (walk.short short);
     }
+
+-- a walk, and then another one
+pub walk-then : {cells : RowCells} {style : Style} {columns : ℕ} {start pen moved : Pen} {text rest after : List ℕ} {old now next : Buffer} →
+    IsLetterWalk cells style columns start pen text rest old now → IsLetterWalk cells style columns pen moved rest after now next →
+    IsLetterWalk cells style columns start moved text after old next
+walk-then {cells} {style} {columns} {start} {pen} {moved} {text} {rest} {after} {old} {now} {next} first second =
+    let front = first.front ++ second.front in
+    let width : clusters_width front ≡ clusters_width first.front + clusters_width second.front = clusters_width-append first.front second.front in
+    record {
+      front = front;
+      parts = first.parts ∙ ap (λ (cs : List Cluster). first.front ++ cs) second.parts ∙ sym (append_assoc first.front second.front (letter_clusters style after));
+      at = λ left column at.
+          let same : (column + clusters_width first.front) + clusters_width second.front ≡ column + clusters_width front = omega (arith, width) in
+          subst (λ n. IsPenAt cells left n moved) same (second.at left (column + clusters_width first.front) (first.at left column at));
+      drawn = λ left column at.
+          Changes-then (row_change cells left (place_from column front)) (first.drawn left column at)
+          (second.drawn left (column + clusters_width first.front) (first.at left column at))
+          (λ x y cell. row_change-append cells left column first.front second.front x y cell);
+      within = second.within;
+      letters = second.letters;
+      short = λ short. second.short (first.short short);
+    }
+
+-- the pen is at some column of a row also after a walk
+pub walk-any : {cells : RowCells} {style : Style} {columns : ℕ} {start pen : Pen} {text rest : List ℕ} {old now : Buffer} →
+    IsLetterWalk cells style columns start pen text rest old now → IsAnyPen cells start → IsAnyPen cells pen
+walk-any walk any = (any.0, any.1 + clusters_width walk.front, walk.at any.0 any.1 any.2)
 
 -- all letters are drawn
 pub walk-all : {cells : RowCells} {style : Style} {columns : ℕ} {start pen : Pen} {text rest : List ℕ} {old now : Buffer} →

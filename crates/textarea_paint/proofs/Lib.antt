@@ -5,6 +5,7 @@ mod ColumnLemmas
 pub mod RowAreaLemmas
 mod FrontLemmas
 mod LetterLemmas
+mod LetterPutLemmas
 mod LetterRowLemmas
 pub mod PartLemmas
 pub mod PlainLemmas

@@ -231,18 +231,22 @@ graphemes-flag text rest after b c utf8 is rest_is first second apart =
 
 -- ---- the columns of the first cluster
 
-first-scalar : (c : ℕ) (cs : List ℕ) → all_scalars (c ∷ cs) ≡ true → all_scalars (c ∷ []) ≡ true
+pub first-scalar : (c : ℕ) (cs : List ℕ) → all_scalars (c ∷ cs) ≡ true → all_scalars (c ∷ []) ≡ true
 first-scalar c cs scalar = grind (arith, nat_tests)
 
 first-scalars : (b c : ℕ) (cs : List ℕ) → all_scalars (b ∷ c ∷ cs) ≡ true → all_scalars (b ∷ c ∷ []) ≡ true
 first-scalars b c cs scalar = grind (arith, nat_tests)
 
-pub columns-simple : (text after : List ℕ) (c : ℕ) → IsUtf8 text → text ≡ encode_utf8 c ++ after → is_simple c ≡ true → columns_of (encode_utf8 c) ≡ char_columns c
-columns-simple text after c utf8 is simple =
-    let scalar = first-scalar c (chars after) (ap all_scalars (sym (chars_past_char text after c utf8 is)) ∙ scalars-chars text utf8) in
+-- its columns, without a text
+pub columns-scalar : (c : ℕ) → all_scalars (c ∷ []) ≡ true → is_simple c ≡ true → columns_of (encode_utf8 c) ≡ char_columns c
+columns-scalar c scalar simple =
     ap columns_of (sym (append-nil (encode_utf8 c))) ∙ columns_of-encoded (c ∷ []) scalar
     ∙ cond-false (is_control c || false) 0 (sum_by char_columns (c ∷ [])) (ap (λ (b : Bool). b || false) (single-visible c (simple-apart c simple).single))
     ∙ omega (arith, sum_by-cons char_columns c [])
+
+pub columns-simple : (text after : List ℕ) (c : ℕ) → IsUtf8 text → text ≡ encode_utf8 c ++ after → is_simple c ≡ true → columns_of (encode_utf8 c) ≡ char_columns c
+columns-simple text after c utf8 is simple =
+    columns-scalar c (first-scalar c (chars after) (ap all_scalars (sym (chars_past_char text after c utf8 is)) ∙ scalars-chars text utf8)) simple
 
 all_one : all_below (λ k. char_columns (0x1F1E6 + k) == 1) 26 ≡ true
 unfolding tables unicode_width

@@ -3,6 +3,8 @@ use Rattle.std.specs.Prelude.{◌≡◌, ℕ, ◌≤◌, ◌+◌, ◌-◌, min, 
 use Rattle.std.specs.List.{find}
 use Rattle.textarea_screen.specs.Buffer.{Change, is_between, wide_symbol}
 use Rattle.textarea_screen.specs.Cell.{CellView, with_symbol}
+use Rattle.textarea_screen.specs.Rect.{contains}
+use Rattle.textarea_screen.specs.declared.screen.rect.Rect.{Rect}
 use Rattle.textarea_screen.specs.declared.screen.style.Style.{Style}
 use Rattle.textarea_paint.specs.Clusters.{Cluster}
 use Rattle.textarea_paint.specs.Columns.{columns_of}
@@ -67,3 +69,7 @@ pub record IsPenAt (cells : RowCells) (left column : ℕ) (pen : Pen) : Type 0 w
 -- the pen is at some column of a row
 abbrev pub IsAnyPen : RowCells → Pen → Type 0
 IsAnyPen cells pen = (left : ℕ) × (column : ℕ) × IsPenAt cells left column pen
+
+-- a cluster of this many columns at the pen is whole in the cells, and in the area of the buffer
+abbrev pub is_room_at : Rect → RowCells → Pen → ℕ → Bool
+is_room_at area cells pen columns = (pen.hidden == 0) && (nat_le columns (min (cells.x + cells.width) (area.x + area.width) - pen.x) && contains area pen.x cells.y)

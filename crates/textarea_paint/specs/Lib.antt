@@ -3,6 +3,7 @@ pub mod Cells
 pub mod Clusters
 pub mod Columns
 pub mod DrawnText
+pub mod LetterWalk
 pub mod Letters
 pub mod LineClusters
 pub mod Part

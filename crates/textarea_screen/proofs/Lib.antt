@@ -1,3 +1,4 @@
 pub mod BufferLemmas
 pub mod ChangeLemmas
+pub mod CharacterLemmas
 pub mod FreshLemmas

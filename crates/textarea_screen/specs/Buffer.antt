@@ -1,6 +1,6 @@
 -- A buffer as contracts see it: its area, and the cell at each position. A call's effect is one of
 -- two facts: each new cell is a function of its position and old cell, or some cells are unchanged.
-use Rattle.std.specs.Prelude.{◌≡◌, ℕ, ◌+◌, ◌-◌, ◌*◌, Bool, true, false, ◌&&◌, ◌==◌, nat_lt, nat_le, List, [], ◌∷◌, length, slice_get, slice_index, Option, None, if◌then◌else◌}
+use Rattle.std.specs.Prelude.{◌≡◌, ◌⊎◌, ℕ, ◌+◌, ◌-◌, ◌*◌, ◌<◌, ◌≤◌, Bool, true, false, ◌&&◌, ◌==◌, nat_lt, nat_le, List, [], ◌∷◌, ◌++◌, length, chars, encode_utf8, slice_get, slice_index, Option, None, if◌then◌else◌}
 use Rattle.std.specs.Option.{option_map}
 use Rattle.textarea_screen.specs.Cell.{CellView, cell_view, with_symbol}
 use Rattle.textarea_screen.specs.Rect.{contains}
@@ -48,6 +48,23 @@ wide_change from row to text whole style x y cell =
 pub record Changes (old new : Buffer) (change : Change) : Type 0 where
   pub area : area_of new ≡ area_of old
   pub cells : (x y : ℕ) → cell_at new x y ≡ option_map (change x y) (cell_at old x y)
+
+-- characters in a style, written into a row one after another from column `from` on, each as a wide
+-- text into `columns` cells
+abbrev pub characters_change : ℕ → ℕ → ℕ → List ℕ → Style → Change
+characters_change from row columns [] style x y cell = cell
+characters_change from row columns (c ∷ cs) style x y cell =
+    characters_change (from + columns) row columns cs style x y (wide_change from row (from + columns) (encode_utf8 c) true style x y cell)
+
+-- the characters between the start of a text and `rest` are written into a row from column `from` up
+-- to `column`: all that fit before the column `to`
+pub record ArePut (from row to columns : ℕ) (style : Style) (text rest : List ℕ) (column : ℕ) (old new : Buffer) : Type 0 where
+  pub front : List ℕ
+  pub parts : chars text ≡ front ++ chars rest
+  pub end : column ≡ from + length front * columns
+  pub fits : column ≤ to
+  pub all : (chars rest ≡ []) ⊎ (to < column + columns)
+  pub written : Changes old new (characters_change from row columns front style)
 
 -- the buffer has the same area, and the cells that do not pass the test are unchanged
 pub record KeepsOutside (test : ℕ → ℕ → Bool) (old new : Buffer) : Type 0 where

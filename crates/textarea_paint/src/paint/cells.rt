@@ -1,13 +1,15 @@
 //! Grapheme clusters in the cells of a row, from left to right.
-ghost use Rattle.std.specs.Prelude.{◌≡◌, ◌+◌, ◌≤◌, ℕ, length, [], ◌∷◌, All, IfOk, IsOk, OnOk, OnErr};
+ghost use Rattle.std.specs.Prelude.{◌≡◌, ◌+◌, ◌<◌, ◌≤◌, ℕ, length, chars, [], ◌∷◌, All, IfOk, IsOk, OnOk, OnErr};
+ghost use Rattle.textarea_paint.specs.LetterWalk.{IsLetterWalk};
 ghost use Rattle.textarea_paint.specs.Letters.{AreLetters};
 ghost use Rattle.textarea_paint.specs.LineClusters.{FitsKind};
-ghost use Rattle.textarea_paint.specs.Prelude.{AreInline, letter_clusters, Changes, KeepsOutside, INLINE_BYTES, IsAnyPen, IsPenAt, IsColumnWithin, IsPrintable, row_change, is_in_cells, place_from, placed_at, clusters_width, columns_of, plain_clusters, run_clusters, styled_cluster};
+ghost use Rattle.textarea_paint.specs.Prelude.{AreInline, letter_clusters, Changes, KeepsOutside, INLINE_BYTES, IsAnyPen, IsPenAt, IsColumnWithin, IsPrintable, row_change, area_of, is_in_cells, is_room_at, place_from, placed_at, clusters_width, columns_of, plain_clusters, run_clusters, styled_cluster};
 
 use super::clusters::{ClusterRun, RunKind, StyledCluster};
 use super::letters::split_letter;
+use super::row::visible_end;
 use std::alloc::AllocError;
-use textarea_screen::screen::{Buffer, Style};
+use textarea_screen::screen::{Buffer, Position, Style};
 
 /// Cells of one row of a screen: `width` cells from column `x` on.
 #[derive(Clone, Copy)]
@@ -92,12 +94,64 @@ fn draw_letters(
     let mut pen = pen;
     let mut rest = letters.text;
     'letters: while !rest.is_empty() {
-        let (text, after) = split_letter(rest);
-        let letter = StyledCluster { text, style };
-        pen = draw_cluster(buffer, cells, pen, letter, columns)?;
-        rest = after;
+        let first = draw_first_letters(buffer, cells, pen, rest, columns, style)?;
+        pen = first.0;
+        rest = first.1;
     }
     Ok(pen)
+}
+
+/// Draws the first of some letters at the pen: all those that are whole in the cells and in the
+/// buffer, or else one. Returns the pen after them, and the letters after them.
+fn draw_first_letters<'a>(
+    buffer: &mut Buffer,
+    cells: RowCells,
+    pen: Pen,
+    letters: &'a str,
+    columns: usize,
+    style: Style,
+) -> Result<(Pen, &'a str), AllocError>
+    requires some { 0 < length letters.now }
+    requires edge { cells.x + cells.width ≤ 65535 }
+    requires within { IsColumnWithin cells pen.x }
+    requires letters { AreLetters columns letters.now }
+    requires pen { IsAnyPen cells pen }
+    ensures walk { IfOk result (λ after. IsLetterWalk cells style columns pen after.0
+        letters.now after.1.now buffer.old buffer.new) }
+    ensures fewer { IfOk result (λ after.
+        length (chars after.1.now) < length (chars letters.now)) }
+    ensures inline { AreInline (letter_clusters style letters.now) → IsOk result }
+    ensures err { OnErr result (KeepsOutside (is_in_cells cells) buffer.old buffer.new) }
+{
+    if is_room_at(buffer, cells, pen, columns) {
+        let end = visible_end(buffer, cells);
+        let put = buffer.put_characters(pen.x, cells.y, end, letters, columns as u16, style);
+        return Ok((
+            Pen {
+                hidden: 0,
+                x: put.0,
+            },
+            put.1,
+        ));
+    }
+    let (text, after) = split_letter(letters);
+    let letter = StyledCluster { text, style };
+    let moved = draw_cluster(buffer, cells, pen, letter, columns)?;
+    Ok((moved, after))
+}
+
+/// Returns whether a cluster of this many columns at the pen is whole in the cells and in the buffer.
+fn is_room_at(buffer: &Buffer, cells: RowCells, pen: Pen, columns: usize) -> bool
+    requires { cells.x + cells.width ≤ 65535 }
+    ensures { result ≡ is_room_at (area_of buffer.now) cells pen columns }
+{
+    let end = visible_end(buffer, cells);
+    let start = Position {
+        x: pen.x,
+        y: cells.y,
+    };
+    let room = usize::from(end.saturating_sub(pen.x));
+    pen.hidden == 0 && columns <= room && buffer.area().contains(start)
 }
 
 /// Draws characters of printable ASCII at the pen, one in each cell, and moves the pen after them,

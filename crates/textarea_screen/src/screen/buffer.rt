@@ -1,4 +1,4 @@
-ghost use Rattle.std.specs.Prelude.{◌≡◌, ◌+◌, ◌*◌, ◌<◌, ◌≤◌, ◌==◌, ◌&&◌, ◌↔◌, ℕ, length, IsTrue, IsSome, IsOk, None, Some, IfOk, OnOk, OnErr, if◌then◌else◌, vec_len, slice_get, IsAscii, All};
+ghost use Rattle.std.specs.Prelude.{◌≡◌, ◌+◌, ◌*◌, ◌<◌, ◌≤◌, ◌==◌, ◌&&◌, ◌↔◌, ℕ, length, IsTrue, IsSome, IsOk, None, Some, IfOk, OnOk, OnErr, if◌then◌else◌, vec_len, slice_get, IsAscii, All, true, encode_utf8};
 ghost use Rattle.std.specs.Option.{option_map};
 ghost use Rattle.textarea_screen.specs.Cell.{cell_view, fresh_cell};
 ghost use Rattle.textarea_screen.specs.declared.screen.cell.TheConstants.{INLINE_BYTES};
@@ -20,7 +20,7 @@ pub struct Buffer {
 impl Buffer {
     ghost use Rattle.textarea_screen.specs.Rect.{contains, is_in_row};
     ghost use Rattle.textarea_screen.specs.Cell.{cell_view, fresh_cell, styled, with_symbol};
-    ghost use Rattle.textarea_screen.specs.Buffer.{area_of, ascii_change, wide_change, cell_at, place_in, Changes};
+    ghost use Rattle.textarea_screen.specs.Buffer.{area_of, ascii_change, wide_change, cell_at, place_in, ArePut, Changes};
 
     /// Returns a buffer of fresh cells, in one allocation.
     pub fn empty(alloc: Global, area: Rect) -> Result<Buffer, AllocError>
@@ -104,6 +104,53 @@ impl Buffer {
                 let cell = &mut self.cells[place + right];
                 cell.put_inline(&text[at..at + 1], style);
             }
+        }
+    }
+
+    /// Puts those of the first characters of a text into the cells of row `y` that fit between the
+    /// columns `x` and `end`, each into `columns` cells: itself into the first one, and the empty
+    /// text into the others. Applies a style to these cells. Returns the column after them, and the
+    /// text after the characters.
+    pub fn put_characters<'a>(
+        &mut self,
+        x: u16,
+        y: u16,
+        end: u16,
+        text: &'a str,
+        columns: u16,
+        style: Style,
+    ) -> (u16, &'a str)
+        requires columns { 0 < columns }
+        requires start { IsTrue (contains (area_of self.old) x y) }
+        requires end { (x ≤ end) × (end ≤ (area_of self.old).x + (area_of self.old).width) }
+        ensures put { ArePut x y end columns style text.now result.1.now result.0 self.old self.new }
+    {
+        let mut column = x;
+        let mut rest = text;
+        'characters: while columns <= end - column {
+            let mut characters = rest.chars();
+            let Some(c) = characters.next() else {
+                break;
+            };
+            self.put_character(column, y, columns, c, style);
+            column += columns;
+            rest = characters.as_str();
+        }
+        (column, rest)
+    }
+
+    /// Puts a character into `columns` cells from column `x` on: itself into the first one, and the
+    /// empty text into the others. Applies a style to these cells.
+    fn put_character(&mut self, x: u16, y: u16, columns: u16, c: char, style: Style)
+        requires columns { 0 < columns }
+        requires start { IsTrue (contains self.old.area x y) }
+        requires end { x + columns ≤ self.old.area.x + self.old.area.width }
+        ensures { Changes self.old self.new (wide_change x y (x + columns) (encode_utf8 c) true style) }
+    {
+        let place = self.place(x, y);
+        self.cells[place].put_char(c, style);
+        for column in x + 1..x + columns {
+            self.cells[place + usize::from(column - x)].fill(true, style);
         }
     }
 

@@ -1,4 +1,4 @@
-ghost use Rattle.std.specs.Prelude.{◌≡◌, ◌≤◌, [], ◌∷◌, length, IsOk, OnOk, OnErr, if◌then◌else◌};
+ghost use Rattle.std.specs.Prelude.{◌≡◌, ◌+◌, ◌≤◌, [], ◌∷◌, ◌++◌, length, IsOk, OnOk, OnErr, encode_utf8, if◌then◌else◌};
 
 use super::color::Color;
 use super::modifier::Modifier;
@@ -27,9 +27,20 @@ impl CellText {
     {
         if text.len() <= INLINE_BYTES {
             self.replace_inline(text);
+            Ok(())
         } else {
-            *self = CellText::Owned(String::from_str(alloc, text)?);
+            self.replace_owned(alloc, text)
         }
+    }
+
+    /// Replaces the text by one on the heap. If it runs out of memory, nothing changes. It isn't
+    /// inlined, so that short texts are replaced by less code.
+    #[inline(never)]
+    fn replace_owned(&mut self, alloc: Global, text: &str) -> Result<(), AllocError>
+        ensures value { OnOk result (cell_text self.new ≡ text.now) }
+        ensures err { OnErr result (self.new ≡ self.old) }
+    {
+        *self = CellText::Owned(String::from_str(alloc, text)?);
         Ok(())
     }
 
@@ -41,14 +52,29 @@ impl CellText {
         match self {
             CellText::Inline(retained) => {
                 retained.clear();
-                retained.push_str(text);
+                push_text(retained, text);
             }
-            _ => {
-                let mut inline = ArrayString::new();
-                inline.push_str(text);
-                *self = CellText::Inline(inline);
-            }
+            _ => self.release(text),
         }
+    }
+
+    /// Replaces a text on the heap by one of at most `INLINE_BYTES` bytes.
+    #[inline(never)]
+    fn release(&mut self, text: &str)
+        requires { length text.now ≤ INLINE_BYTES }
+        ensures { cell_text self.new ≡ text.now }
+    {
+        let mut inline = ArrayString::new();
+        inline.push_str(text);
+        *self = CellText::Inline(inline);
+    }
+
+    /// Replaces the text by a character, without allocation.
+    fn replace_by_char(&mut self, c: char)
+        ensures { cell_text self.new ≡ encode_utf8 c }
+    {
+        let mut bytes = [0; 4];
+        self.replace_inline(c.encode_utf8(&mut bytes));
     }
 
     /// Replaces the text by the empty one.
@@ -69,6 +95,30 @@ impl CellText {
             CellText::Owned(text) => text.as_str(),
         }
     }
+}
+
+/// Appends a text. Most characters have 1 to 4 bytes, and a flag has 8: a branch with a known number
+/// of bytes copies them without a loop.
+fn push_text(inline: &mut ArrayString<INLINE_BYTES>, text: &str)
+    requires { length inline.old.bytes + length text.now ≤ INLINE_BYTES }
+    ensures { inline.new.bytes ≡ inline.old.bytes ++ text.now }
+{
+    match text.len() {
+        1 => inline.push_str(of_length::<1>(text)),
+        2 => inline.push_str(of_length::<2>(text)),
+        3 => inline.push_str(of_length::<3>(text)),
+        4 => inline.push_str(of_length::<4>(text)),
+        8 => inline.push_str(of_length::<8>(text)),
+        _ => inline.push_str(text),
+    }
+}
+
+/// Returns the same text, with a number of bytes that the compiler knows.
+fn of_length<const N: usize>(text: &str) -> &str
+    requires { length text.now ≡ N }
+    ensures { result.now ≡ text.now }
+{
+    &text[..N]
 }
 
 /// One cell of a screen: its text, mostly one character, its colours and its modifiers.
@@ -124,6 +174,14 @@ impl Cell {
         ensures { cell_view self.new ≡ with_symbol text.now style (cell_view self.old) }
     {
         self.text.replace_inline(text);
+        self.set_style(style);
+    }
+
+    /// Replaces the text by a character and applies a style, without allocation.
+    pub(super) fn put_char(&mut self, c: char, style: Style)
+        ensures { cell_view self.new ≡ with_symbol (encode_utf8 c) style (cell_view self.old) }
+    {
+        self.text.replace_by_char(c);
         self.set_style(style);
     }
 

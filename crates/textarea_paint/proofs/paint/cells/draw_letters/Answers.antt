@@ -1,4 +1,4 @@
-use Rattle.std.proofs.Common.{◌≡◌, [], ap, sym, subst, ◌∙◌, ◌+◌, arith, rules}
+use Rattle.std.proofs.Common.{◌≡◌, [], ℕ, zero, suc, ◌<◌, ◌==◌, true, false, length, ap, sym, subst, ◌∙◌, ◌+◌, arith, rules}
 use Rattle.std.proofs.lemmas.Bool.{eqb-true}
 use Rattle.std.proofs.lemmas.List.{nil_from_length}
 use Rattle.std.specs.Prelude.{length}
@@ -6,8 +6,13 @@ use Rattle.textarea_screen.specs.Buffer.{Changes}
 use Rattle.textarea_screen.proofs.ChangeLemmas.{KeepsOutside-then}
 use Rattle.textarea_paint.specs.Cells.{IsPenAt, place_from, row_change}
 use Rattle.textarea_paint.specs.Row.{clusters_width}
-use Rattle.textarea_paint.proofs.LetterRowLemmas.{first-columns, first-short, on_err, walk-all, walk-next, walk-outside, walk-start}
+use Rattle.textarea_paint.proofs.LetterRowLemmas.{on_err, walk-all, walk-any, walk-outside, walk-start, walk-then}
 use Rattle.textarea_paint.proofs.paint.cells.draw_letters.Goals as goal
+
+-- a text that isn't empty has a byte
+some_left : (n : ℕ) → false ≡ (n == 0) → 0 < n
+some_left zero e = absurd (let no : false ≡ true = e in cc)
+some_left (suc n) e = omega arith
 
 pub letters-init : goal.letters-init
 letters-init c = record {
@@ -18,18 +23,17 @@ letters-init c = record {
 pub letters-preserved : goal.letters-preserved
 letters-preserved c = record {
   text = search rules;
-  walk = walk-next c.letters.invariant.walk c.split_letter.ensures (λ left column at. c.in_ok-pen.ensures.moved left column at)
-      (λ left column at. c.in_ok-pen.ensures.drawn left column at) c.in_ok-pen.ensures.within;
+  walk = walk-then c.letters.invariant.walk c.in_ok-first.ensures.walk;
 }
 
 pub letters-smaller : goal.letters-smaller
-letters-smaller c = omega (arith, ap length c.split_letter.ensures.chars_are)
+letters-smaller c = c.in_ok-first.ensures.fewer
 
-pub returns-in_err-pen-clause-inline : goal.returns-in_err-pen-clause-inline
-returns-in_err-pen-clause-inline c = λ short. cc (c.in_err-pen.ensures.inline (first-short c.args.letters.style (c.letters.invariant.walk.short short) c.split_letter.ensures))
+pub returns-in_err-first-clause-inline : goal.returns-in_err-first-clause-inline
+returns-in_err-first-clause-inline c = λ short. cc (c.in_err-first.ensures.inline (c.letters.invariant.walk.short short))
 
-pub returns-in_err-pen-clause-err : goal.returns-in_err-pen-clause-err
-returns-in_err-pen-clause-err c = on_err c.from_residual.result (KeepsOutside-then (walk-outside c.letters.invariant.walk c.requires.pen) c.in_err-pen.ensures.err)
+pub returns-in_err-first-clause-err : goal.returns-in_err-first-clause-err
+returns-in_err-first-clause-err c = on_err c.from_residual.result (KeepsOutside-then (walk-outside c.letters.invariant.walk c.requires.pen) c.in_err-first.ensures.err)
 
 pub returns-clause-moved : goal.returns-clause-moved
 returns-clause-moved c = λ left column at.
@@ -43,9 +47,11 @@ returns-clause-drawn c = λ left column at.
     subst (λ cs. Changes c.args.buffer.now c.letters.buffer (row_change c.args.cells left (place_from column cs))) (walk-all c.letters.invariant.walk none)
     (c.letters.invariant.walk.drawn left column at)
 
-pub draw_cluster-requires : goal.draw_cluster-requires
-draw_cluster-requires c = record {
+pub draw_first_letters-requires : goal.draw_first_letters-requires
+draw_first_letters-requires c = record {
+  some = some_left (length c.letters.rest.now) c.letters-test.ensures;
   edge = c.requires.edge;
-  columns = first-columns c.letters.invariant.walk.letters c.split_letter.ensures;
   within = c.letters.invariant.walk.within;
+  letters = c.letters.invariant.walk.letters;
+  pen = walk-any c.letters.invariant.walk c.requires.pen;
 }

@@ -2,7 +2,7 @@ use denote.Shadow.{shadow}
 use denote.Text.{Utf8}
 use Rattle.std.proofs.Common.{length}
 use Rattle.std.specs.Str.{chars}
-use Rattle.textarea_paint.proofs.LetterRowLemmas.{IsLetterWalk}
+use Rattle.textarea_paint.specs.LetterWalk.{IsLetterWalk}
 use Rattle.textarea_paint.proofs.paint.cells.draw_letters.Given as goal
 
 abbrev pub invariant-letters : goal.invariant-letters
