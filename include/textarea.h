@@ -964,6 +964,22 @@ uint32_t ta_set_tab_length(ta_handle_t *handle, uint8_t columns);
  * Statuses: ok, empty handle. */
 uint32_t ta_set_hard_tab_indent(ta_handle_t *handle, bool hard);
 
+/** Sets whether the text area is read only. Then no call but `ta_set_lines` changes the text: every
+ * other call that edits, and an undo and a redo, changes nothing, neither what is yanked nor the
+ * selection, and returns false, 0 or nothing. But `ta_cut` does what `ta_copy` does, and returns
+ * whether a text was selected. Off at first.
+ *
+ * Statuses: ok, empty handle. */
+uint32_t ta_set_read_only(ta_handle_t *handle, bool read_only);
+
+/** Sets whether the text is kept in a single line, and returns whether it could be set: a text of
+ * several lines can't be. Then a line break that is typed, and `ta_duplicate_line`, do nothing,
+ * breaks of a text that is inserted or pasted become spaces, and `ta_set_lines` of several lines
+ * does nothing. Setting it forgets all edits. Off at first.
+ *
+ * Statuses: ok (true), false, empty handle. */
+uint32_t ta_set_single_line(ta_handle_t *handle, bool single_line);
+
 /** Hides the line numbers.
  *
  * Statuses: ok, out of memory, empty handle. */
@@ -980,6 +996,16 @@ uint32_t ta_set_min_rows(ta_handle_t *handle, uint16_t rows);
  *
  * Statuses: ok, empty handle. */
 uint32_t ta_set_max_rows(ta_handle_t *handle, uint16_t rows);
+
+/** Returns whether the text area is read only.
+ *
+ * Statuses: ok (true), false, empty handle. */
+uint32_t ta_read_only(ta_handle_t *handle);
+
+/** Returns whether the text is kept in a single line.
+ *
+ * Statuses: ok (true), false, empty handle. */
+uint32_t ta_single_line(ta_handle_t *handle);
 
 /** Returns the distance of tab stops, in columns.
  *

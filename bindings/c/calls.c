@@ -157,6 +157,29 @@ static void selection(void) {
     ta_free(&area);
 }
 
+static void read_only(void) {
+    ta_handle_t area = area_of("one");
+    CHECK(ta_read_only(&area) == TA_FALSE && ta_set_read_only(&area, true) == TA_OK);
+    CHECK(ta_insert_char(&area, 'x') == TA_OK && ta_delete_next_char(&area) == TA_FALSE);
+    CHECK(ta_insert_newline(&area) == TA_OK && ta_undo(&area) == TA_FALSE);
+    CHECK(ta_read_only(&area) == TA_OK && has_lines(&area, "one\n"));
+    CHECK(ta_set_read_only(&area, false) == TA_OK && ta_insert_char(&area, 'x') == TA_OK);
+    CHECK(has_lines(&area, "xone\n"));
+    ta_free(&area);
+}
+
+static void single_line(void) {
+    ta_handle_t area = area_of("one\ntwo");
+    CHECK(ta_single_line(&area) == TA_FALSE && ta_set_single_line(&area, true) == TA_FALSE);
+    CHECK(ta_clear(&area) == TA_OK && ta_set_single_line(&area, true) == TA_OK);
+    CHECK(ta_undo(&area) == TA_FALSE && ta_single_line(&area) == TA_OK);
+    CHECK(ta_insert_newline(&area) == TA_OK && ta_insert_char(&area, '\r') == TA_OK);
+    CHECK(ta_insert_str(&area, TEXT("a\nb")) == TA_OK && has_lines(&area, "a b\n"));
+    CHECK(ta_set_single_line(&area, false) == TA_OK && ta_insert_newline(&area) == TA_OK);
+    CHECK(has_lines(&area, "a b\n\n"));
+    ta_free(&area);
+}
+
 static void history(void) {
     ta_handle_t area = area_of("");
     size_t most = 0;
@@ -397,6 +420,8 @@ int main(void) {
     removals();
     moves();
     selection();
+    read_only();
+    single_line();
     history();
     search();
     ranges();

@@ -34,5 +34,7 @@ static const struct script_call script_calls[] = {
     {.name = "search_back", .has_flag = true, .with_bool = ta_search_back},
     {.name = "set_tab_length", .with_byte = ta_set_tab_length},
     {.name = "set_hard_tab_indent", .with_bool = ta_set_hard_tab_indent},
+    {.name = "set_read_only", .with_bool = ta_set_read_only},
+    {.name = "set_single_line", .has_flag = true, .with_bool = ta_set_single_line},
     {.name = "clear_mask_char", .bare = ta_clear_mask_char},
 };

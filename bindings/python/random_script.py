@@ -14,7 +14,13 @@ BARE = [name for name, (kind, _) in METHODS.items() if not kind] + "undo undo ya
 WITH_ARGUMENTS = {name: kind for name, (kind, _) in METHODS.items() if kind} | {name: kind for name, (_, kind) in SETTERS.items()}
 VALUES = {"bool": ["true", "false"], "u8": range(8), "u16": range(8), "usize": range(8)}
 # Where the values of the type would leave too little to try.
-OWN_VALUES = {"set_tab_length": [0, 1, 2, 4, 8], "set_undo_coalescing": ["true", "true", "false"], "set_max_histories": [0, 3, 50, 50]}
+OWN_VALUES = {
+    "set_tab_length": [0, 1, 2, 4, 8],
+    "set_undo_coalescing": ["true", "true", "false"],
+    "set_max_histories": [0, 3, 50, 50],
+    "set_read_only": ["true", "false", "false", "false"],
+    "set_single_line": ["true", "false", "false", "false"],
+}
 MOVES = """Forward Back Up Down Head End Top Bottom WordForward WordEnd WordBack ParagraphForward ParagraphBack
 InViewport""".split()
 PATTERNS = ["o", "a+", "^", "[a-z]+", "(", "", "\\\\s", "犬", "b$"]

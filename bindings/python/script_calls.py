@@ -31,6 +31,7 @@ METHODS = {
     "copy": (None, False),
     "search_forward": ("bool", True),
     "search_back": ("bool", True),
+    "set_single_line": ("bool", True),
 }
 
 # Commands that set a property: its name, and its type.
@@ -40,6 +41,7 @@ SETTERS = {
     "set_undo_grouping": ("undo_grouping", "bool"),
     "set_tab_length": ("tab_length", "u8"),
     "set_hard_tab_indent": ("hard_tab_indent", "bool"),
+    "set_read_only": ("read_only", "bool"),
 }
 
 # The styles of a text area.

@@ -89,6 +89,27 @@ class Calls(unittest.TestCase):
         area.max_histories = 0
         self.assertFalse(area.undo())
 
+    def test_read_only(self):
+        area = TextArea("one")
+        self.assertFalse(area.read_only)
+        area.read_only = True
+        area.insert_char("x")
+        self.assertFalse(area.insert_str("x") or area.delete_next_char() or area.input(Input.char("x")))
+        area.select_all()
+        self.assertTrue(area.read_only and area.cut() and area.text == area.yank_text == "one")
+        area.read_only = False
+        area.insert_char("x")
+        self.assertTrue(area.text == "onex" and area.undo())
+
+    def test_single_line(self):
+        area = TextArea("one\ntwo")
+        self.assertFalse(area.single_line or area.set_single_line(True))
+        area.set_lines(["one"])
+        self.assertTrue(area.set_single_line(True) and area.single_line)
+        area.insert_newline()
+        self.assertTrue(area.insert_pasted("a\r\nb") and not area.input(Input.char("\n")))
+        self.assertEqual(area.text, "a bone")
+
     def test_undo_groups(self):
         area = TextArea("one")
         self.assertFalse(area.undo_grouping)

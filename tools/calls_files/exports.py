@@ -62,6 +62,8 @@ def form_of(call):
         return Form(parameters, makes(f"MakesAttempt {given}"), [f"flag({made})"], said)
     if call.memory and not call.result:
         return Form(parameters, makes(f"MakesChange {given}"), [f"done({made})"], "ok, out of memory, empty handle")
+    if not call.memory and call.result == "bool":
+        return Form(parameters, makes(f"MakesAttempt {given}"), [f"truth({made})"], "ok (true), false, empty handle")
     if not call.memory and not call.result:
         return Form(parameters, makes(f"MakesSetting {given}"), ["{", f"    {made};", "    OK", "}"], "ok, empty handle")
     stop(f"{TABLE}: there is no plain export of `{call.name}`")

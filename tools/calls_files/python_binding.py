@@ -9,7 +9,7 @@ PYTHON = {"bool": "bool", "u8": "int", "u16": "int", "usize": "int", "Style": "S
 
 def python_wrappers(table):
     calls = {call.name: call for call in table.calls if "Python" in call.languages}
-    setters = {name: call for name, call in calls.items() if name.startswith("set_")}
+    setters = {name: call for name, call in calls.items() if name.startswith("set_") and not call.result}
     out = [
         f'"""{NOTE}"""',
         "",

@@ -46,12 +46,12 @@ def rust_commands(table):
 
 
 def python_commands(table):
-    """The commands whose calls are plain methods and properties."""
+    """The commands whose calls are plain methods and properties; a setter with a result is a method."""
     calls = [call for call in scripted(table) if "Python" in call.languages]
     methods, setters = [], []
     for call in calls:
         kind = f'"{call.arguments[0][1]}"' if call.arguments else "None"
-        if call.name.startswith("set_"):
+        if call.name.startswith("set_") and not call.result:
             setters.append(f'    "{call.command}": ("{call.name[4:]}", {kind}),')
         else:
             methods.append(f'    "{call.command}": ({kind}, {call.result == "bool"}),')

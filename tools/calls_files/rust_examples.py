@@ -132,6 +132,16 @@ assert_eq!(area.lines(), ["  "]);"""),
 area.set_hard_tab_indent(true);
 area.insert_tab();
 assert_eq!(area.lines(), ["\\t"]);"""),
+    "set_read_only": ("one", """\
+area.set_read_only(true);
+area.insert_char('x'); // inserts nothing
+assert!(!area.delete_next_char());
+assert_eq!(area.lines(), ["one"]);"""),
+    "set_single_line": ("one", """\
+assert!(area.set_single_line(true));
+area.insert_newline(); // breaks no line
+area.insert_str("a\\nb");
+assert_eq!(area.lines(), ["a bone"]);"""),
     "remove_line_number": ("one", """\
 area.set_line_number_style(Style::new().dark_gray());
 area.remove_line_number();
@@ -159,6 +169,8 @@ assert!(area.is_selecting());"""),
     "max_histories": ("one", "assert_eq!(area.max_histories(), 50);"),
     "undo_coalescing": ("one", "assert!(!area.undo_coalescing());"),
     "undo_grouping": ("one", "assert!(!area.undo_grouping());"),
+    "read_only": ("one", "assert!(!area.read_only());"),
+    "single_line": ("one", "assert!(!area.single_line());"),
     "tab_length": ("one", "assert_eq!(area.tab_length(), 4);"),
     "hard_tab_indent": ("one", "assert!(!area.hard_tab_indent());"),
     "min_rows": ("one", "assert_eq!(area.min_rows(), 1);"),

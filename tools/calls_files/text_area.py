@@ -78,7 +78,7 @@ def results(table):
 def states(table):
     """The states after the calls that set a style."""
     return [
-        f"state_after state (call.{call.variant} style) = with_look_set state (record state.drawing.look {{ {call.field()} = style }})"
+        f"unguarded_after state (call.{call.variant} style) = with_look_set state (record state.drawing.look {{ {call.field()} = style }})"
         for call in look_setters(table)
     ]
 

@@ -167,6 +167,13 @@ class Calls(Core):
         """Drops all atomic ranges."""
         self._call(lib.ta_clear_atomic_ranges)
 
+    def set_single_line(self, single_line: bool = False) -> bool:
+        """Sets whether the text is kept in a single line, and returns whether it could be set: a
+        text of several lines can't be. Then a line break that is typed, and `duplicate_line`, do
+        nothing, breaks of a text that is inserted or pasted become spaces, and `set_lines` of
+        several lines does nothing. Setting it forgets all edits. Off at first."""
+        return self._call(lib.ta_set_single_line, single_line)
+
     def clear_custom_highlight(self) -> None:
         """Removes all custom highlights."""
         self._call(lib.ta_clear_custom_highlight)
@@ -210,6 +217,23 @@ class Calls(Core):
     @undo_grouping.setter
     def undo_grouping(self, groups: bool) -> None:
         self._call(lib.ta_set_undo_grouping, groups)
+
+    @property
+    def read_only(self) -> bool:
+        """Whether the text area is read only. Then no call but `set_lines` changes the text: every
+        other call that edits, and an undo and a redo, changes nothing, neither what is yanked nor
+        the selection, and returns false, 0 or nothing. But `cut` does what `copy` does, and returns
+        whether a text was selected. Off at first."""
+        return self._call(lib.ta_read_only)
+
+    @read_only.setter
+    def read_only(self, read_only: bool) -> None:
+        self._call(lib.ta_set_read_only, read_only)
+
+    @property
+    def single_line(self) -> bool:
+        """Whether the text is kept in a single line."""
+        return self._call(lib.ta_single_line)
 
     @property
     def tab_length(self) -> int:

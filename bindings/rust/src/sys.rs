@@ -353,9 +353,13 @@ unsafe extern "C" {
     pub fn ta_delete_atomic_range_at_cursor(handle: *mut Handle, direction: u32, range: *mut Range) -> u32;
     pub fn ta_set_tab_length(handle: *mut Handle, columns: u8) -> u32;
     pub fn ta_set_hard_tab_indent(handle: *mut Handle, hard: bool) -> u32;
+    pub fn ta_set_read_only(handle: *mut Handle, read_only: bool) -> u32;
+    pub fn ta_set_single_line(handle: *mut Handle, single_line: bool) -> u32;
     pub fn ta_remove_line_number(handle: *mut Handle) -> u32;
     pub fn ta_set_min_rows(handle: *mut Handle, rows: u16) -> u32;
     pub fn ta_set_max_rows(handle: *mut Handle, rows: u16) -> u32;
+    pub fn ta_read_only(handle: *mut Handle) -> u32;
+    pub fn ta_single_line(handle: *mut Handle) -> u32;
     pub fn ta_tab_length(handle: *mut Handle, tab_length: *mut u8) -> u32;
     pub fn ta_hard_tab_indent(handle: *mut Handle) -> u32;
     pub fn ta_min_rows(handle: *mut Handle, min_rows: *mut u16) -> u32;

@@ -180,6 +180,21 @@ fn history() {
 }
 
 #[test]
+fn read_only() {
+    let mut area = TextArea::from(["one"]);
+    assert!(!area.read_only());
+    area.set_read_only(true);
+    area.insert_char('x');
+    assert!(!area.insert_str("x") && !area.delete_next_char() && !area.undo());
+    area.select_all();
+    assert!(area.read_only() && area.cut());
+    assert_eq!((area.yank_text().as_str(), area.lines()), ("one", &["one"][..]));
+    area.set_read_only(false);
+    area.insert_char('x');
+    assert_eq!(area.lines(), ["onex"]);
+}
+
+#[test]
 fn undo_groups() {
     let mut area = TextArea::from(["one"]);
     assert!(!area.undo_grouping());

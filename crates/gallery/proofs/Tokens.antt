@@ -82,6 +82,10 @@ plain_name name named =
     (All-from_recursion IsPlainName names
     (is_plain _ (omega arith) (search rules) refl, (is_plain _ (omega arith) (search rules) refl, (is_plain _ (omega arith) (search rules) refl, tt)))) named
 
+-- its symbols are its characters
+pub name_symbols : (name : List ℕ) → Contains names name → fragment_symbols (chars name) ≡ characters name
+name_symbols name named = let plain = plain_name name named in ap fragment_symbols plain.ascii ∙ plain.plain
+
 fits_by_case : (selects : Bool) (document gone : DocumentState) (removal : Splice) (symbols : List Symbol) → gone.text ≡ applied document.text removal →
     CanApply document.text (cond selects (removal ∷ []) [] ++ splice_of_step (cond selects gone document) (Insert symbols) ∷ []) →
     Fits (cond selects gone document).text (splice_of_step (cond selects gone document) (Insert symbols))
@@ -129,7 +133,7 @@ pub covers_mention : (old mid : State) (name : List ℕ) (range : AtomicRange) �
     range.start_col ≡ range.end_col - length name → Contains names (covered_characters (lines mid.document.text) range)
 covers_mention old mid name range named inserted can row column start =
     let plain = plain_name name named in
-    let symbols : fragment_symbols (chars name) ≡ characters name = ap fragment_symbols plain.ascii ∙ plain.plain in
+    let symbols = name_symbols name named in
     let is : mid ≡ str_inserted old (characters name) = inserted ∙ ap (str_inserted old) symbols in
     let fits = fits_before old name plain.some in
     let end_is : range.end_col ≡ (str_inserted old (characters name)).document.cursor.1 = column ∙ ap (λ (s : State). s.document.cursor.1) is in

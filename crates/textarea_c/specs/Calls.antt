@@ -12,6 +12,7 @@ use Rattle.tui_textarea.specs.CallResults as reported
 use Rattle.tui_textarea.specs.CallResults.{CallResult}
 use Rattle.tui_textarea.specs.Calls.{NeedsMemory, result_of_call, state_after}
 use Rattle.tui_textarea.specs.Edits.{char_inserted}
+use Rattle.tui_textarea.specs.Guards.{bars_character}
 use Rattle.tui_textarea.specs.Input.{flag_of}
 use Rattle.tui_textarea.specs.Patterns.{IsNewPattern, MayRejectPattern}
 use Rattle.tui_textarea.specs.Ranges.{ranges_accepted}
@@ -135,7 +136,7 @@ Inserts area status a b =
 
 -- the insertion of this character, or of the break that it means, as typed
 unfoldable pub InsertsCharacter : ℕ → ℕ → Editor → Editor → Type 0
-InsertsCharacter c status a b = Inserts (char_inserted a.area c) status a b
+InsertsCharacter c status a b = Inserts (if bars_character a.area c then a.area else char_inserted a.area c) status a b
 
 -- one that returns whether there was something to insert, and needs no memory where it does nothing
 abbrev pub TriesToInsert : Bool → Bool → State → ℕ → Editor → Editor → Type 0

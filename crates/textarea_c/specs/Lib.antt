@@ -5,7 +5,6 @@ pub mod Drawn
 pub mod Fresh
 pub mod Held
 pub mod Incoming
-pub mod Lines
 pub mod Made
 pub mod Outgoing
 pub mod Rejections

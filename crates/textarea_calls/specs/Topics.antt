@@ -102,6 +102,8 @@ call_of_ranges (ranges.DeleteAtomicRangeAtCursor direction) = call.DeleteAtomicR
 abbrev pub call_of_options : OptionsCall → Call
 call_of_options (options.SetTabLength columns) = call.SetTabLength columns
 call_of_options (options.SetHardTabIndent hard) = call.SetHardTabIndent hard
+call_of_options (options.SetReadOnly read_only) = call.SetReadOnly read_only
+call_of_options (options.SetSingleLine single_line) = call.SetSingleLine single_line
 call_of_options (options.SetWrapMode mode) = call.SetWrapMode mode
 call_of_options (options.SetLineNumberStyle style) = call.SetLineNumberStyle style
 call_of_options options.RemoveLineNumber = call.RemoveLineNumber
@@ -144,6 +146,8 @@ call_of_read read.YankText = call.YankText
 call_of_read read.MaxHistories = call.MaxHistories
 call_of_read read.UndoCoalescing = call.UndoCoalescing
 call_of_read read.UndoGrouping = call.UndoGrouping
+call_of_read read.ReadOnly = call.ReadOnly
+call_of_read read.SingleLine = call.SingleLine
 call_of_read read.TabLength = call.TabLength
 call_of_read read.HardTabIndent = call.HardTabIndent
 call_of_read read.WrapMode = call.WrapMode

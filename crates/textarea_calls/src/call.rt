@@ -142,6 +142,10 @@ pub enum Call<'a> {
     SetTabLength(u8),
     /// `TextArea::set_hard_tab_indent`
     SetHardTabIndent(bool),
+    /// `TextArea::set_read_only`
+    SetReadOnly(bool),
+    /// `TextArea::set_single_line`
+    SetSingleLine(bool),
     /// `TextArea::set_wrap_mode`
     SetWrapMode(WrapMode),
     /// `TextArea::set_line_number_style`
@@ -228,6 +232,10 @@ pub enum Call<'a> {
     UndoCoalescing,
     /// `TextArea::undo_grouping`
     UndoGrouping,
+    /// `TextArea::read_only`
+    ReadOnly,
+    /// `TextArea::single_line`
+    SingleLine,
     /// `TextArea::tab_length`
     TabLength,
     /// `TextArea::hard_tab_indent`

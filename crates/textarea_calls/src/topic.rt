@@ -134,11 +134,13 @@ pub enum RangesCall<'a> {
     DeleteAtomicRangeAtCursor(AtomicDeleteDirection),
 }
 
-/// Settings of tabs, wrapping, line numbers and heights.
+/// Settings of tabs, of what may be edited, of wrapping, line numbers and heights.
 #[derive(Clone, Copy)]
 pub enum OptionsCall {
     SetTabLength(u8),
     SetHardTabIndent(bool),
+    SetReadOnly(bool),
+    SetSingleLine(bool),
     SetWrapMode(WrapMode),
     SetLineNumberStyle(Style),
     RemoveLineNumber,
@@ -197,6 +199,8 @@ pub enum ReadCall {
     MaxHistories,
     UndoCoalescing,
     UndoGrouping,
+    ReadOnly,
+    SingleLine,
     TabLength,
     HardTabIndent,
     WrapMode,
@@ -297,6 +301,8 @@ pub fn topic_of(call: Call<'_>) -> Topic<'_>
         ),
         Call::SetTabLength(columns) => Topic::Options(OptionsCall::SetTabLength(columns)),
         Call::SetHardTabIndent(hard) => Topic::Options(OptionsCall::SetHardTabIndent(hard)),
+        Call::SetReadOnly(read_only) => Topic::Options(OptionsCall::SetReadOnly(read_only)),
+        Call::SetSingleLine(single_line) => Topic::Options(OptionsCall::SetSingleLine(single_line)),
         Call::SetWrapMode(mode) => Topic::Options(OptionsCall::SetWrapMode(mode)),
         Call::SetLineNumberStyle(style) => Topic::Options(OptionsCall::SetLineNumberStyle(style)),
         Call::RemoveLineNumber => Topic::Options(OptionsCall::RemoveLineNumber),
@@ -355,6 +361,8 @@ pub fn topic_of(call: Call<'_>) -> Topic<'_>
         Call::MaxHistories => Topic::Read(ReadCall::MaxHistories),
         Call::UndoCoalescing => Topic::Read(ReadCall::UndoCoalescing),
         Call::UndoGrouping => Topic::Read(ReadCall::UndoGrouping),
+        Call::ReadOnly => Topic::Read(ReadCall::ReadOnly),
+        Call::SingleLine => Topic::Read(ReadCall::SingleLine),
         Call::TabLength => Topic::Read(ReadCall::TabLength),
         Call::HardTabIndent => Topic::Read(ReadCall::HardTabIndent),
         Call::WrapMode => Topic::Read(ReadCall::WrapMode),

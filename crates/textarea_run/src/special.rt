@@ -3,8 +3,10 @@ ghost use Rattle.std.specs.Prelude.{◌≡◌, ◌≢◌, ◌<◌, [], length, I
 ghost use Rattle.textarea_screen.specs.Block.{block_view};
 ghost use Rattle.textarea_screen.specs.Text.{text_view};
 ghost use Rattle.textarea_search.specs.PlainTexts.{text_pattern};
+ghost use Rattle.textarea_text.specs.Text.{lines_of};
 ghost use Rattle.tui_textarea.specs.CallResults.{call_result};
-ghost use Rattle.tui_textarea.specs.Calls.{ranges_result, rejected_ranges, with_lines, with_ranges_if};
+ghost use Rattle.tui_textarea.specs.Calls.{ranges_result, rejected_ranges, with_ranges_if};
+ghost use Rattle.tui_textarea.specs.Guards.{other_lines_set};
 ghost use Rattle.tui_textarea.specs.Measure.{with_surround};
 ghost use Rattle.tui_textarea.specs.Outcomes.{after_pattern, IsPatternCallResult};
 ghost use Rattle.tui_textarea.specs.Patterns.{IsNewPattern, IsPatternResult};
@@ -24,7 +26,7 @@ pub fn set_lines(
     cursor: (usize, usize),
 ) -> Result<(), AllocError>
     requires some { 0 < length lines.now }
-    ensures ok { OnOk result (area.new ≡ with_lines area.old lines.now cursor) }
+    ensures ok { OnOk result (area.new ≡ other_lines_set area.old (lines_of lines.now) cursor) }
     ensures err { OnErr result (area.new ≡ area.old) }
 {
     let alloc = area.allocator();

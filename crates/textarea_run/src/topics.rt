@@ -239,7 +239,7 @@ pub(crate) fn ranges_call(
     }
 }
 
-/// Settings of tabs, wrapping, line numbers and heights.
+/// Settings of tabs, of what may be edited, of wrapping, line numbers and heights.
 pub(crate) fn options_call(area: &mut TextArea<'_>, call: OptionsCall) -> Result<Answer, AllocError>
     ensures answer { IfOk result
         (λ answer. IsResultOf area.old (call_of_options call) (call_result answer)) }
@@ -252,6 +252,13 @@ pub(crate) fn options_call(area: &mut TextArea<'_>, call: OptionsCall) -> Result
         OptionsCall::SetHardTabIndent(hard) => {
             area.set_hard_tab_indent(hard);
             Ok(Answer::Done)
+        }
+        OptionsCall::SetReadOnly(read_only) => {
+            area.set_read_only(read_only);
+            Ok(Answer::Done)
+        }
+        OptionsCall::SetSingleLine(single_line) => {
+            Ok(Answer::Flag(area.set_single_line(single_line)))
         }
         OptionsCall::SetWrapMode(mode) => area.set_wrap_mode(mode).map(|()| Answer::Done),
         OptionsCall::SetLineNumberStyle(style) => area
@@ -386,6 +393,8 @@ pub(crate) fn read_call(area: &mut TextArea<'_>, call: ReadCall) -> Result<Answe
         ReadCall::MaxHistories => Ok(Answer::Number(area.max_histories())),
         ReadCall::UndoCoalescing => Ok(Answer::Flag(area.undo_coalescing())),
         ReadCall::UndoGrouping => Ok(Answer::Flag(area.undo_grouping())),
+        ReadCall::ReadOnly => Ok(Answer::Flag(area.read_only())),
+        ReadCall::SingleLine => Ok(Answer::Flag(area.single_line())),
         ReadCall::TabLength => Ok(Answer::Number(area.tab_length() as usize)),
         ReadCall::HardTabIndent => Ok(Answer::Flag(area.hard_tab_indent())),
         ReadCall::WrapMode => Ok(Answer::WrapMode(area.wrap_mode())),

@@ -22,6 +22,8 @@ commands_with_arguments =
     ∷ (codes "search_back", plain_command truth call.SearchBack)
     ∷ (codes "set_tab_length", plain_command byte_number call.SetTabLength)
     ∷ (codes "set_hard_tab_indent", plain_command truth call.SetHardTabIndent)
+    ∷ (codes "set_read_only", plain_command truth call.SetReadOnly)
+    ∷ (codes "set_single_line", plain_command truth call.SetSingleLine)
     ∷ (codes "set_wrap_mode", plain_command mode_named call.SetWrapMode)
     ∷ (codes "set_mask_char", plain_command character call.SetMaskChar)
     ∷ (codes "measure", plain_command short_number call.Measure)

@@ -78,6 +78,8 @@ pub fn call_with_arguments(name: &str, arguments: &str) -> Option<Call<'static>>
         "search_back" => Some(Call::SearchBack(truth(arguments)?)),
         "set_tab_length" => Some(Call::SetTabLength(byte_number(arguments)?)),
         "set_hard_tab_indent" => Some(Call::SetHardTabIndent(truth(arguments)?)),
+        "set_read_only" => Some(Call::SetReadOnly(truth(arguments)?)),
+        "set_single_line" => Some(Call::SetSingleLine(truth(arguments)?)),
         "set_wrap_mode" => Some(Call::SetWrapMode(mode_named(arguments)?)),
         "set_mask_char" => Some(Call::SetMaskChar(one_character(arguments)?)),
         "measure" => Some(Call::Measure(short_number(arguments)?)),

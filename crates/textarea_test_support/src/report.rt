@@ -46,6 +46,8 @@ fn tell(differences: &mut Differences, area: &TextArea<'_>) -> Result<(), AllocE
     differences.flag(area.hard_tab_indent(), "hard_tab_indent")?;
     differences.flag(area.undo_coalescing(), "undo_coalescing")?;
     differences.flag(area.undo_grouping(), "undo_grouping")?;
+    differences.flag(area.read_only(), "read_only")?;
+    differences.flag(area.single_line(), "single_line")?;
     differences.number(area.max_histories(), 50, "max_histories")?;
     differences.mode(area.wrap_mode())?;
     differences.style(area.line_number_style(), "line_number_style")?;

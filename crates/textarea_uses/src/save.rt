@@ -1,9 +1,10 @@
 //! A text with a saved state. Its user can rely on it that `revert` gives exactly the text that was
 //! saved, whenever the undo history reaches back to it.
-ghost use Rattle.std.specs.Prelude.{◌≡◌, ◌↔◌, IfOk, IsTrue, OnOk};
+ghost use Rattle.std.specs.Prelude.{◌≡◌, ◌↔◌, IfOk, IsTrue, OnOk, true};
 ghost use Rattle.std.specs.Str.{chars};
 ghost use Rattle.textarea_text.specs.Text.{characters_of};
 ghost use Rattle.textarea_uses.specs.Save.{file_text};
+ghost use Rattle.tui_textarea.specs.Guards.{is_editable};
 ghost use Rattle.tui_textarea.specs.TextsBefore.{ReachesBack};
 
 use std::alloc::{AllocError, Global};
@@ -57,12 +58,14 @@ impl SavedText {
         ensures reverted { IfOk result (λ reached. IsTrue reached →
             file_text self.new.area ≡ characters_of self.old.saved) }
     {
+        self.area.set_read_only(false); // else nothing can be undone
         undo_to(&mut self.area, self.saved.as_str())
     }
 }
 
 // Undoes edits until the text is the wanted one, and returns whether it is.
 fn undo_to(area: &mut TextArea<'_>, wanted: &str) -> Result<bool, AllocError>
+    requires { is_editable area.old ≡ true }
     ensures reached { IfOk result (λ reached. IsTrue reached ↔
         ReachesBack area.old.document (chars wanted.now)) }
     ensures reverted { IfOk result (λ reached. IsTrue reached →

@@ -31,8 +31,9 @@ use Rattle.textarea_document.proofs.Ranges.{valid_none}
 use Rattle.textarea_document.proofs.Sounds.{sound_begun, sound_ended, sound_fresh, start_is_place, sound_changes}
 use Rattle.tui_textarea.specs.CallResults.{CallResult, PatternRejected}
 use Rattle.tui_textarea.specs.CallSplices.{OfSplicesOutOfMemory, splices_by, splices_of}
-use Rattle.tui_textarea.specs.Calls.{StateOutOfMemory, call_splices, rejected_ranges, state_after}
+use Rattle.tui_textarea.specs.Calls.{StateOutOfMemory, call_splices, rejected_ranges, state_after, unguarded_after, unguarded_splices}
 use Rattle.tui_textarea.specs.Drawing.{viewport_scrolled}
+use Rattle.tui_textarea.specs.Guards.{admitted, barred_after, is_barred}
 use Rattle.tui_textarea.specs.Input.{IsAfterAction, IsAnyOutOfMemory, asked_by, asked_without_shortcuts, call_of_action}
 use Rattle.tui_textarea.specs.LayoutCalls.{alignment_set, line_numbers_set, mode_set, tab_length_set}
 use Rattle.tui_textarea.specs.Outcomes.{IsAfterCall, IsAfterOutOfMemory, after_pattern}
@@ -42,12 +43,13 @@ use Rattle.tui_textarea.specs.Replacing.{match_at_cursor, replaceable}
 use Rattle.tui_textarea.specs.Search.{after_search, next_match, previous_match}
 use Rattle.tui_textarea.specs.Selection.{IsInsertOutOfMemory, unselected}
 use Rattle.tui_textarea.specs.State.{State}
+use Rattle.tui_textarea.proofs.Cases.{by_both}
 use Rattle.tui_textarea.proofs.FoundPlaces.{match_is_place}
 use Rattle.tui_textarea.proofs.Replacing.{all_by, lines_down_by, lines_shifted_by, lines_up_by, match_by, range_by, search_unchanged}
 use Rattle.tui_textarea.proofs.SoundStates.{sound_at, sound_cursor, sound_from, sound_goes, sound_ranges, sound_search, sound_settings, sound_unanchored}
 use Rattle.textarea_document.proofs.UndoGroups.{sound_redo, sound_undo}
 use Rattle.tui_textarea.proofs.Stepping.{Reckoning, after_by, ahead_by, before_by, break_by, char_by, cleared_by, copied_by, cursor_range_by, cut_by, edited, kept, moved}
-use Rattle.tui_textarea.proofs.Stepping.{layout_and_ranges, line_end_by, line_head_by, moves_unchanged, newline_by, selected_by, str_by, tab_by, unselected_by}
+use Rattle.tui_textarea.proofs.Stepping.{layout_and_ranges, line_end_by, line_head_by, moves_unchanged, newline_by, selected_by, single_by, str_by, tab_by, unselected_by}
 use Rattle.tui_textarea.proofs.Stepping.{word_after_by, word_before_by}
 use Rattle.tui_textarea.proofs.Targets.{clip_is_place, index_is_place}
 
@@ -72,10 +74,11 @@ as_outcome : (By : Fact) (old new outcome : State) (splices : List Splice) → n
     → By old.document splices new.document
 as_outcome By old new outcome splices is h = subst (λ (s : State). By old.document splices s.document) (sym is) h
 
--- the relation for undo and redo, with and without an edit to undo or redo
+-- the relation for undo and redo, with and without an edit to undo or redo, and where they do nothing
 pub record Past (Own : Fact) : Type 0 where
   pub undos : (document : DocumentState) → IsSound document → Own document (undo_splices document) (after_undo document)
   pub redos : (document : DocumentState) → IsSound document → Own document (redo_splices document) (after_redo document)
+  pub stays : (document : DocumentState) → Own document [] document
 
 -- ---- calls
 
@@ -119,87 +122,89 @@ given : {A B : Type 0} (Condition : Type 0) → A × B → A × (Condition → B
 given Condition both = (both.0, λ condition. both.1)
 
 module _ (By Own : Fact) (by : Reckoning By) (past : Past Own) where
-  -- the fact of a call with the state after it, which is sound if the call can be made
-  abbrev ByCallSoundly : State → Call → Type 0
-  ByCallSoundly old made =
-      ByState By Own made old.document (call_splices old made) (state_after old made).document × (CanBeMade made → IsSound (state_after old made).document)
+  -- the fact of a call with these splices and this state after it, which is sound if the call can be
+  -- made
+  abbrev ByCallSoundly : State → Call → List Splice → State → Type 0
+  ByCallSoundly old made splices new =
+      ByState By Own made old.document splices new.document × (CanBeMade made → IsSound new.document)
 
-  -- a call with the state after it
-  pub by_state : (old : State) (made : Call) → IsSound old.document → ByCallSoundly old made
-  by_state old (call.InsertChar c) h = given _ (char_by By by old c h)
-  by_state old (call.InsertStr text) h = given _ (str_by By by old (fragment_symbols (chars text.now)) h)
-  by_state old (call.InsertPasted text) h = given _ (str_by By by old (pasted_symbols (chars text.now)) h)
-  by_state old call.InsertTab h = given _ (tab_by By by old h)
-  by_state old call.InsertNewline h = given _ (newline_by By by old h)
-  by_state old call.Paste h = given _ (str_by By by old old.yank h)
-  by_state old call.DuplicateLine h =
+  -- a call in a text area that isn't read only
+  pub unguarded_by : (old : State) (made : Call) → IsSound old.document → ByCallSoundly old made (unguarded_splices old made) (unguarded_after old made)
+  unguarded_by old (call.InsertChar c) h = given _ (char_by By by old c h)
+  unguarded_by old (call.InsertStr text) h = given _ (str_by By by old (admitted old (fragment_symbols (chars text.now))) h)
+  unguarded_by old (call.InsertPasted text) h = given _ (str_by By by old (admitted old (pasted_symbols (chars text.now))) h)
+  unguarded_by old call.InsertTab h = given _ (tab_by By by old h)
+  unguarded_by old call.InsertNewline h = given _ (newline_by By by old h)
+  unguarded_by old call.Paste h = given _ (str_by By by old (admitted old old.yank) h)
+  unguarded_by old call.DuplicateLine h =
       let document = old.document in
       let fits = selection_duplication_fits document h.cursor h.anchor in
       let once = edited By by document (selection_duplication document) false old.time h fits (duplication_splits_none document h) in
       given _ (moved By by document (after_edit document (selection_duplication document) false old.time) (lines_duplicated document old.time) (selection_duplication document ∷ []) refl
       (sound_duplicated document old.time h) once)
-  by_state old call.IndentLines h =
+  unguarded_by old call.IndentLines h =
       given _ (lines_shifted_by By by old.document false (line_stretches old.document false) (tab_of old.document old.settings.hard_tab_indent) old.time h)
-  by_state old call.OutdentLines h = given _ (lines_shifted_by By by old.document true (line_stretches old.document true) [] old.time h)
-  by_state old call.MoveLinesUp h = given _ (lines_up_by By by old.document old.time h)
-  by_state old call.MoveLinesDown h = given _ (lines_down_by By by old.document old.time h)
-  by_state old (call.ReplaceRange from to text) h = given _ (range_by By by old.document from to (fragment_symbols (chars text.now)) old.time h)
-  by_state old (call.ReplaceMatch text) h = given _ (match_by By by old (match_at_cursor old) (fragment_symbols (chars text.now)) h)
-  by_state old (call.ReplaceAll text) h = given _ (all_by By by old.document (replaceable old) (fragment_symbols (chars text.now)) old.time h)
-  by_state old (call.DeleteStr count) h = given _ (unselected_by By by old (symbols_ahead_removed old count) _ h (ahead_by By by old count h))
-  by_state old call.DeleteNewline h = given _ (unselected_by By by old (break_before_removed old) _ h (break_by By by old.document old.time h))
-  by_state old call.DeleteChar h =
+  unguarded_by old call.OutdentLines h = given _ (lines_shifted_by By by old.document true (line_stretches old.document true) [] old.time h)
+  unguarded_by old call.MoveLinesUp h = given _ (lines_up_by By by old.document old.time h)
+  unguarded_by old call.MoveLinesDown h = given _ (lines_down_by By by old.document old.time h)
+  unguarded_by old (call.ReplaceRange from to text) h = given _ (range_by By by old.document from to (admitted old (fragment_symbols (chars text.now))) old.time h)
+  unguarded_by old (call.ReplaceMatch text) h = given _ (match_by By by old (match_at_cursor old) (admitted old (fragment_symbols (chars text.now))) h)
+  unguarded_by old (call.ReplaceAll text) h = given _ (all_by By by old.document (replaceable old) (admitted old (fragment_symbols (chars text.now))) old.time h)
+  unguarded_by old (call.DeleteStr count) h = given _ (unselected_by By by old (symbols_ahead_removed old count) _ h (ahead_by By by old count h))
+  unguarded_by old call.DeleteNewline h = given _ (unselected_by By by old (break_before_removed old) _ h (break_by By by old.document old.time h))
+  unguarded_by old call.DeleteChar h =
       given _ (unselected_by By by old (symbol_before_removed old) _ h (before_by By by old.document old.settings.undo_coalescing old.time h))
-  by_state old call.DeleteNextChar h =
+  unguarded_by old call.DeleteNextChar h =
       given _ (unselected_by By by old (symbol_after_removed old) _ h (after_by By by old.document old.settings.undo_coalescing old.time h))
-  by_state old call.DeleteLineByEnd h = given _ (unselected_by By by old (line_end_removed old) _ h (line_end_by By by old h))
-  by_state old call.DeleteLineByHead h = given _ (unselected_by By by old (line_head_removed old) _ h (line_head_by By by old h))
-  by_state old call.DeleteWord h = given _ (unselected_by By by old (word_before_removed old) _ h (word_before_by By by old h))
-  by_state old call.DeleteNextWord h = given _ (unselected_by By by old (word_after_removed old) _ h (word_after_by By by old h))
-  by_state old call.Clear h = given _ (cleared_by By by old h)
-  by_state old call.Cut h = given _ (cut_by By by old h)
-  by_state old (call.DeleteAtomicRangeAtCursor direction) h = given _ (cursor_range_by By by old direction h)
-  by_state old call.Undo h = (past.undos old.document h, λ can. sound_undo old.document h)
-  by_state old call.Redo h = (past.redos old.document h, λ can. sound_redo old.document h)
-  by_state old call.Copy h = given _ (copied_by By by old h)
-  by_state old (call.GoTo place) h =
+  unguarded_by old call.DeleteLineByEnd h = given _ (unselected_by By by old (line_end_removed old) _ h (line_end_by By by old h))
+  unguarded_by old call.DeleteLineByHead h = given _ (unselected_by By by old (line_head_removed old) _ h (line_head_by By by old h))
+  unguarded_by old call.DeleteWord h = given _ (unselected_by By by old (word_before_removed old) _ h (word_before_by By by old h))
+  unguarded_by old call.DeleteNextWord h = given _ (unselected_by By by old (word_after_removed old) _ h (word_after_by By by old h))
+  unguarded_by old call.Clear h = given _ (cleared_by By by old h)
+  unguarded_by old call.Cut h = given _ (cut_by By by old h)
+  unguarded_by old (call.DeleteAtomicRangeAtCursor direction) h = given _ (cursor_range_by By by old direction h)
+  unguarded_by old call.Undo h = (past.undos old.document h, λ can. sound_undo old.document h)
+  unguarded_by old call.Redo h = (past.redos old.document h, λ can. sound_redo old.document h)
+  unguarded_by old call.Copy h = given _ (copied_by By by old h)
+  unguarded_by old (call.GoTo place) h =
       let rows = lines old.document.text in
       let near = clip_is_place rows place (omega (arith, h.cursor.0)) in
       let at = moved_out old.document.ranges (clip rows place) BiasForward in
-      given _ (kept By by old.document (state_after old (call.GoTo place)).document refl
+      given _ (kept By by old.document (unguarded_after old (call.GoTo place)).document refl
       (sound_goes old (is_some old.document.anchor) (Some at) h (IsPlaceOf-moved_out rows old.document.ranges (clip rows place) BiasForward h.ranges near)))
-  by_state old call.StartSelection h =
-      given _ (kept By by old.document (state_after old call.StartSelection).document refl (sound_from old.document (Some old.document.cursor) h h.cursor))
-  by_state old call.CancelSelection h =
-      given _ (kept By by old.document (state_after old call.CancelSelection).document refl (sound_unanchored old.document h))
-  by_state old call.SelectAll h =
+  unguarded_by old call.StartSelection h =
+      given _ (kept By by old.document (unguarded_after old call.StartSelection).document refl (sound_from old.document (Some old.document.cursor) h h.cursor))
+  unguarded_by old call.CancelSelection h =
+      given _ (kept By by old.document (unguarded_after old call.CancelSelection).document refl (sound_unanchored old.document h))
+  unguarded_by old call.SelectAll h =
       let text = old.document.text in
-      given _ (kept By by old.document (state_after old call.SelectAll).document refl
+      given _ (kept By by old.document (unguarded_after old call.SelectAll).document refl
       (sound_at old.document (place_of text (length text)) (Some (0, 0)) h (index_is_place text (length text)) (start_is_place text)))
-  by_state old (call.SearchForward at_cursor) h =
+  unguarded_by old (call.SearchForward at_cursor) h =
       let found = next_match old at_cursor in
       given _ (kept By by old.document (after_search old found).document (search_unchanged old found) (sound_search old found h (match_is_place toward.Forward old at_cursor)))
-  by_state old (call.SearchBack at_cursor) h =
+  unguarded_by old (call.SearchBack at_cursor) h =
       let found = previous_match old at_cursor in
       given _ (kept By by old.document (after_search old found).document (search_unchanged old found) (sound_search old found h (match_is_place toward.Back old at_cursor)))
-  by_state old (call.NormalizeCursorAroundAtomicRanges bias) h =
-      given _ (kept By by old.document (state_after old (call.NormalizeCursorAroundAtomicRanges bias)).document refl (sound_cursor old.document bias h))
-  by_state old (call.SetMaxHistories maximum) h =
-      given _ (kept By by old.document (state_after old (call.SetMaxHistories maximum)).document refl
+  unguarded_by old (call.NormalizeCursorAroundAtomicRanges bias) h =
+      given _ (kept By by old.document (unguarded_after old (call.NormalizeCursorAroundAtomicRanges bias)).document refl (sound_cursor old.document bias h))
+  unguarded_by old (call.SetMaxHistories maximum) h =
+      given _ (kept By by old.document (unguarded_after old (call.SetMaxHistories maximum)).document refl
       (record { cursor = h.cursor; anchor = h.anchor; ranges = h.ranges; in_order = h.in_order; undo = tt; redo = tt; bounded = omega arith; marks = refl; whole = refl }))
-  by_state old (call.SetUndoCoalescing joins) h =
-      given _ (kept By by old.document (state_after old (call.SetUndoCoalescing joins)).document refl
+  unguarded_by old (call.SetUndoCoalescing joins) h =
+      given _ (kept By by old.document (unguarded_after old (call.SetUndoCoalescing joins)).document refl
       (record { cursor = h.cursor; anchor = h.anchor; ranges = h.ranges; in_order = h.in_order; undo = h.undo; redo = h.redo; bounded = h.bounded; marks = h.marks; whole = h.whole }))
-  by_state old call.BeginUndoGroup h =
-      given _ (kept By by old.document (state_after old call.BeginUndoGroup).document refl (sound_begun old.document h))
-  by_state old call.EndUndoGroup h =
-      given _ (kept By by old.document (state_after old call.EndUndoGroup).document refl (sound_ended old.document h))
-  by_state old call.EndRun h =
-      given _ (kept By by old.document (state_after old call.EndRun).document refl
+  unguarded_by old (call.SetSingleLine single_line) h = given _ (single_by By by old single_line h)
+  unguarded_by old call.BeginUndoGroup h =
+      given _ (kept By by old.document (unguarded_after old call.BeginUndoGroup).document refl (sound_begun old.document h))
+  unguarded_by old call.EndUndoGroup h =
+      given _ (kept By by old.document (unguarded_after old call.EndUndoGroup).document refl (sound_ended old.document h))
+  unguarded_by old call.EndRun h =
+      given _ (kept By by old.document (unguarded_after old call.EndRun).document refl
       (sound_at old.document old.document.cursor old.document.anchor h h.cursor h.anchor))
-  by_state old (call.Input input) h = (tt, λ can. h)
-  by_state old (call.InputWithoutShortcuts input) h = (tt, λ can. h)
-  by_state old (call.SetLines items cursor) h =
+  unguarded_by old (call.Input input) h = (tt, λ can. h)
+  unguarded_by old (call.InputWithoutShortcuts input) h = (tt, λ can. h)
+  unguarded_by old (call.SetLines items cursor) h =
       let place = clip (lines_of items.now) cursor in (
         tt,
         λ can. sound_changes (fresh_document (text_of items.now) old.document.layout.settings old.document.layout.count place old.document.log.maximum)
@@ -207,18 +212,44 @@ module _ (By Own : Fact) (by : Reckoning By) (past : Past Own) where
             (sound_fresh (text_of items.now) old.document.layout.settings old.document.layout.count place old.document.log.maximum
             (text_place items.now place (clip_is_place (lines_of items.now) cursor (omega (arith, can, length-map items.now characters_of))))),
       )
-  by_state old (call.SetTabLength columns) h = (tt, λ can. sound_settings old.document (tab_length_set old columns) h)
-  by_state old (call.SetWrapMode mode) h = (tt, λ can. sound_settings old.document (mode_set old mode) h)
-  by_state old (call.SetLineNumberStyle style) h = (tt, λ can. sound_settings old.document (line_numbers_set old true) h)
-  by_state old call.RemoveLineNumber h = (tt, λ can. sound_settings old.document (line_numbers_set old false) h)
-  by_state old (call.SetAlignment alignment) h = (tt, λ can. sound_settings old.document (alignment_set old alignment) h)
-  by_state old (call.TrySetAtomicRanges ranges) h = (tt, λ can. sound_ranges (rejected_ranges old ranges.now) old ranges.now h refl)
-  by_state old call.ClearAtomicRanges h =
+  unguarded_by old (call.SetTabLength columns) h = (tt, λ can. sound_settings old.document (tab_length_set old columns) h)
+  unguarded_by old (call.SetWrapMode mode) h = (tt, λ can. sound_settings old.document (mode_set old mode) h)
+  unguarded_by old (call.SetLineNumberStyle style) h = (tt, λ can. sound_settings old.document (line_numbers_set old true) h)
+  unguarded_by old call.RemoveLineNumber h = (tt, λ can. sound_settings old.document (line_numbers_set old false) h)
+  unguarded_by old (call.SetAlignment alignment) h = (tt, λ can. sound_settings old.document (alignment_set old alignment) h)
+  unguarded_by old (call.TrySetAtomicRanges ranges) h = (tt, λ can. sound_ranges (rejected_ranges old ranges.now) old ranges.now h refl)
+  unguarded_by old call.ClearAtomicRanges h =
       (tt, λ can. record { cursor = h.cursor; anchor = h.anchor; ranges = valid_none (lines old.document.text); in_order = refl; undo = h.undo; redo = h.redo; bounded = h.bounded; marks = h.marks; whole = h.whole })
-  by_state old (call.SetChangeLog unit) h = (tt, λ can. sound_changes old.document (no_changes unit) h)
-  by_state old call.TakeChanges h = (tt, λ can. sound_changes old.document (no_changes old.document.changes.unit) h)
-  by_state old (call.Render area) h = (tt, λ can. h)
-  by_state old made h = given _ (kept By by old.document (state_after old made).document refl h)
+  unguarded_by old (call.SetChangeLog unit) h = (tt, λ can. sound_changes old.document (no_changes unit) h)
+  unguarded_by old call.TakeChanges h = (tt, λ can. sound_changes old.document (no_changes old.document.changes.unit) h)
+  unguarded_by old (call.Render area) h = (tt, λ can. h)
+  unguarded_by old made h = given _ (kept By by old.document (unguarded_after old made).document refl h)
+
+  -- a call that edits, in a text area that is read only
+  barred_by : (old : State) (made : Call) → IsSound old.document → ByCallSoundly old made [] (barred_after old made)
+  barred_by old call.Cut h = given _ (copied_by By by old h)
+  barred_by old call.Undo h = (past.stays old.document, λ can. h)
+  barred_by old call.Redo h = (past.stays old.document, λ can. h)
+  barred_by old (call.Input input) h = (tt, λ can. h)
+  barred_by old (call.InputWithoutShortcuts input) h = (tt, λ can. h)
+  barred_by old (call.SetLines items cursor) h = (tt, λ can. h)
+  barred_by old (call.SetTabLength columns) h = (tt, λ can. h)
+  barred_by old (call.SetWrapMode mode) h = (tt, λ can. h)
+  barred_by old (call.SetLineNumberStyle style) h = (tt, λ can. h)
+  barred_by old call.RemoveLineNumber h = (tt, λ can. h)
+  barred_by old (call.SetAlignment alignment) h = (tt, λ can. h)
+  barred_by old (call.TrySetAtomicRanges ranges) h = (tt, λ can. h)
+  barred_by old call.ClearAtomicRanges h = (tt, λ can. h)
+  barred_by old (call.SetChangeLog unit) h = (tt, λ can. h)
+  barred_by old call.TakeChanges h = (tt, λ can. h)
+  barred_by old (call.Render area) h = (tt, λ can. h)
+  barred_by old made h = given _ (kept By by old.document old.document refl h)
+
+  -- a call with the state after it
+  pub by_state : (old : State) (made : Call) → IsSound old.document → ByCallSoundly old made (call_splices old made) (state_after old made)
+  by_state old made h =
+      by_both (ByCallSoundly old made) (is_barred old made) [] (unguarded_splices old made) (barred_after old made) (unguarded_after old made)
+      (λ barred. barred_by old made h) (λ free. unguarded_by old made h)
 
   pub acts_by : (old new : State) (asked : Action) → IsSound old.document → IsAfterAction old asked new
       → ByAct By Own asked old.document (splices_by old asked) new.document

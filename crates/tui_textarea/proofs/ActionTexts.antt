@@ -20,11 +20,12 @@ use Rattle.textarea_document.specs.Splices.{selected_splices}
 use Rattle.tui_textarea.specs.ActionTexts.{AllPass, CoversAsBefore, InsertsPassing, IsAfterAllTimed, IsAfterTimed, IsLeftByAction, covered_texts}
 use Rattle.tui_textarea.specs.CallSplices.{OfSplicesOutOfMemory, splices_by}
 use Rattle.tui_textarea.specs.Edits.{breaks_line}
+use Rattle.tui_textarea.specs.Guards.{admitted}
 use Rattle.tui_textarea.specs.Input.{IsAfterAction, IsInputOutOfMemory, asked_by, call_of_action}
 use Rattle.tui_textarea.specs.Splices.{str_splices}
 use Rattle.tui_textarea.specs.State.{State}
 use Rattle.tui_textarea.proofs.Acting.{ByAct, acts_by, any_left}
-use Rattle.tui_textarea.proofs.EachSymbol.{InsertOnly, only_after_splices, only_delete_char, only_delete_next_char, only_line_end, only_line_head, only_selected, only_str, only_tab, only_word_after, only_word_before}
+use Rattle.tui_textarea.proofs.EachSymbol.{InsertOnly, only_after_splices, only_delete_char, only_delete_next_char, only_line_end, only_line_head, only_selected, only_str, only_tab, only_unless, only_word_after, only_word_before}
 use Rattle.tui_textarea.proofs.RangesOverActions.{past_follows, reckoning_of}
 use Rattle.tui_textarea.proofs.RangesOverCalls.{TheLaws}
 use Rattle.tui_textarea.proofs.Runs.{OneInput}
@@ -64,17 +65,17 @@ by_char test state c true h = only_str (Passes test) state (Break ∷ []) (All-c
 by_char test state c false h = only_str (Passes test) state (Character c ∷ []) (All-cons (Passes test) (Character c) [] h (All-nil (Passes test)))
 
 inserts_only : (test : Symbol → Bool) (state : State) (asked : Action) → InsertsPassing test state asked → InsertOnly (Passes test) (splices_by state asked)
-inserts_only test state (action.InsertChar c) h = by_char test state c (breaks_line c) h
-inserts_only test state action.InsertNewline h = only_str (Passes test) state (Break ∷ []) (All-cons (Passes test) Break [] h (All-nil (Passes test)))
-inserts_only test state action.InsertTab h = only_tab (Passes test) state h.0 h.1
-inserts_only test state action.Paste h = only_str (Passes test) state state.yank h
-inserts_only test state action.DeleteChar h = only_delete_char (Passes test) state
-inserts_only test state action.DeleteNextChar h = only_delete_next_char (Passes test) state
-inserts_only test state action.DeleteLineByEnd h = only_line_end (Passes test) state
-inserts_only test state action.DeleteLineByHead h = only_line_head (Passes test) state
-inserts_only test state action.DeleteWord h = only_word_before (Passes test) state
-inserts_only test state action.DeleteNextWord h = only_word_after (Passes test) state
-inserts_only test state action.Cut h = only_selected (Passes test) state.document
+inserts_only test state (action.InsertChar c) h = only_unless (Passes test) _ _ (by_char test state c (breaks_line c) h)
+inserts_only test state action.InsertNewline h = only_unless (Passes test) _ _ (only_str (Passes test) state (Break ∷ []) (All-cons (Passes test) Break [] h (All-nil (Passes test))))
+inserts_only test state action.InsertTab h = only_unless (Passes test) _ _ (only_tab (Passes test) state h.0 h.1)
+inserts_only test state action.Paste h = only_unless (Passes test) _ _ (only_str (Passes test) state (admitted state state.yank) h)
+inserts_only test state action.DeleteChar h = only_unless (Passes test) _ _ (only_delete_char (Passes test) state)
+inserts_only test state action.DeleteNextChar h = only_unless (Passes test) _ _ (only_delete_next_char (Passes test) state)
+inserts_only test state action.DeleteLineByEnd h = only_unless (Passes test) _ _ (only_line_end (Passes test) state)
+inserts_only test state action.DeleteLineByHead h = only_unless (Passes test) _ _ (only_line_head (Passes test) state)
+inserts_only test state action.DeleteWord h = only_unless (Passes test) _ _ (only_word_before (Passes test) state)
+inserts_only test state action.DeleteNextWord h = only_unless (Passes test) _ _ (only_word_after (Passes test) state)
+inserts_only test state action.Cut h = only_unless (Passes test) _ _ (only_selected (Passes test) state.document)
 inserts_only test state action.Undo h = absurd h
 inserts_only test state action.Redo h = absurd h
 inserts_only test state asked h = tt

@@ -1,5 +1,5 @@
 -- The lines that each call wraps, by the laws of the text area; the wrap counter never decreases.
-use Rattle.std.proofs.Common.{◌≡◌, ◌≤◌, ℕ, List, [], ◌∷◌, true, false, ap, refl, subst, sym, ◌∙◌, ⊎_elim}
+use Rattle.std.proofs.Common.{◌≡◌, ◌≤◌, ℕ, Bool, List, [], ◌∷◌, cond, true, false, ap, refl, subst, sym, ◌∙◌, ⊎_elim}
 use Rattle.textarea_lines.specs.LineWraps.{WrapsForSplices, WrapsAllLines, WrapsForSettings, WrapsForWidth}
 use Rattle.textarea_lines.specs.TextLayout.{TextAndLayout}
 use Rattle.textarea_lines.specs.declared.settings.LayoutSettings.{LayoutSettings}
@@ -17,8 +17,9 @@ use Rattle.textarea_document.specs.DocumentState.{DocumentState, fresh_document}
 use Rattle.tui_textarea.specs.Input.{asked_by, asked_without_shortcuts}
 use Rattle.tui_textarea.specs.LayoutCalls.{alignment_set, mode_set, line_numbers_set, tab_length_set, with_layout}
 use Rattle.tui_textarea.specs.State.{State}
-use Rattle.tui_textarea.specs.Calls.{rejected_ranges, with_ranges_if}
-use Rattle.tui_textarea.specs.CallWraps.{WrapsByCall}
+use Rattle.tui_textarea.specs.Calls.{rejected_ranges, with_lines, with_ranges_if}
+use Rattle.tui_textarea.specs.Guards.{bars_lines}
+use Rattle.tui_textarea.specs.CallWraps.{WrapsAllUnless, WrapsByCall}
 use Rattle.tui_textarea.specs.Outcomes.{IsAfterCall, IsAfterOutOfMemory}
 use Rattle.tui_textarea.specs.CallResults.{CallResult}
 use Rattle.tui_textarea.specs.CallSplices.{OfSplicesOutOfMemory, splices_of}
@@ -50,6 +51,11 @@ ranges_unchanged : (rejected : List RejectedAtomicRange) (state : State) (ranges
 ranges_unchanged [] state ranges = refl
 ranges_unchanged (range ∷ rejected) state ranges = refl
 
+-- lines that are set, or left out
+lines_wrap : (old new set : State) (barred : Bool) → new ≡ cond barred old set → WrapsAll old.document set.document → WrapsAllUnless barred old new
+lines_wrap old new set true k wraps = ap (λ (s : State). text_and_layout s.document) k
+lines_wrap old new set false k wraps = subst (λ (s : State). WrapsAll old.document s.document) (sym k) wraps
+
 module _ (laws : TheLaws) where
   set : (old new outcome : State) (settings : LayoutSettings) → new.document ≡ outcome.document → outcome ≡ with_layout old settings → WrapsBySettings old.document settings new.document
   set old new outcome settings same is =
@@ -57,7 +63,7 @@ module _ (laws : TheLaws) where
 
   pub call_wraps : (old new : State) (made : Call) (returned : CallResult) → IsSound old.document → IsAfterCall old made returned new → WrapsByCall old made new
   call_wraps old new (call.SetLines lines cursor) returned h k =
-      subst (λ (s : State). WrapsAll old.document s.document) (sym k)
+      lines_wrap old new (with_lines old lines.now cursor) (bars_lines old (lines_of lines.now)) k
       (laws.lines old.document (text_of lines.now) (clip (lines_of lines.now) cursor) old.document.log.maximum)
   call_wraps old new (call.SetTabLength columns) returned h k = set old new (with_layout old (tab_length_set old columns)) (tab_length_set old columns) (ap (λ (s : State). s.document) k) refl
   call_wraps old new (call.SetWrapMode mode) returned h k = set old new (with_layout old (mode_set old mode)) (mode_set old mode) (ap (λ (s : State). s.document) k) refl
@@ -102,8 +108,12 @@ module _ (never : Never) where
   settings_grow : (old new : DocumentState) (settings : LayoutSettings) → WrapsBySettings old settings new → old.layout.count ≤ new.layout.count
   settings_grow old new settings h = never.settings (text_and_layout old) (text_and_layout new) settings h
 
+  lines_grow : (old new : State) (barred : Bool) → WrapsAllUnless barred old new → old.document.layout.count ≤ new.document.layout.count
+  lines_grow old new true h = splices_grow old.document new.document [] h
+  lines_grow old new false h = never.lines (text_and_layout old.document) (text_and_layout new.document) h
+
   pub call_grows : (old new : State) (made : Call) → WrapsByCall old made new → old.document.layout.count ≤ new.document.layout.count
-  call_grows old new (call.SetLines lines cursor) h = never.lines (text_and_layout old.document) (text_and_layout new.document) h
+  call_grows old new (call.SetLines lines cursor) h = lines_grow old new (bars_lines old (lines_of lines.now)) h
   call_grows old new (call.SetTabLength columns) h = settings_grow old.document new.document (tab_length_set old columns) h
   call_grows old new (call.SetWrapMode mode) h = settings_grow old.document new.document (mode_set old mode) h
   call_grows old new (call.SetLineNumberStyle style) h = settings_grow old.document new.document (line_numbers_set old true) h

@@ -17,12 +17,14 @@ use Rattle.textarea_document.specs.Outcomes.{after_edit, after_redo, after_undo}
 use Rattle.textarea_document.specs.Sound.{IsSound}
 use Rattle.textarea_document.proofs.Changing.{leads_on, no_change_leads}
 use Rattle.tui_textarea.specs.CallResults.{CallResult, Measured, PatternRejected, Place as PlaceFound}
-use Rattle.tui_textarea.specs.Calls.{ranges_result, rejected_ranges, with_ranges_if}
+use Rattle.tui_textarea.specs.Calls.{ranges_result, rejected_ranges, with_ranges_if, with_lines}
 use Rattle.tui_textarea.specs.ChangesOverCalls.{ChangesFollow, SetsLog, taken_by}
+use Rattle.tui_textarea.specs.Guards.{bars_lines}
 use Rattle.tui_textarea.specs.Input.{asked_by, asked_without_shortcuts}
 use Rattle.tui_textarea.specs.Outcomes.{IsAfterCall, IsAfterOutOfMemory, IsPatternCallResult, IsResultOf}
 use Rattle.tui_textarea.specs.State.{State}
 use Rattle.tui_textarea.proofs.Acting.{Past, by_any_act, calls_by, calls_left}
+use Rattle.tui_textarea.proofs.Cases.{by_test}
 use Rattle.tui_textarea.proofs.Frames.{drawn_document}
 use Rattle.tui_textarea.proofs.Stepping.{LayoutAndRanges, Reckoning, layout_and_ranges}
 
@@ -116,14 +118,16 @@ module _ (laws : TheLaws) where
   }
 
   past : Past Logs
-  past = record { undos = laws.undone; redos = laws.redone }
+  past = record { undos = laws.undone; redos = laws.redone; stays = λ document. stays document document refl }
 
   -- any call but the two of the log
   leads : (old new : State) (made : Call) (returned : CallResult) → (¬ SetsLog made) → (¬ Takes made) → IsSound old.document → IsAfterCall old made returned new → ChangesLead old.document new.document
   leads old new (call.SetChangeLog unit) returned sets takes h k = absurd (sets tt)
   leads old new call.TakeChanges returned sets takes h k = absurd (takes tt)
   leads old new (call.SetLines items cursor) returned sets takes h k =
-      subst (λ (s : State). ChangesLead old.document s.document) (sym k) (laws.lines old.document (lines_of items.now) cursor)
+      subst (λ (s : State). ChangesLead old.document s.document) (sym k)
+      (by_test (λ (s : State). ChangesLead old.document s.document) (bars_lines old (lines_of items.now)) old (with_lines old items.now cursor)
+      (λ barred. stays old.document old.document refl) (λ set. laws.lines old.document (lines_of items.now) cursor))
   leads old new (call.SetTabLength columns) returned sets takes h k = unchanged old new _ k refl refl
   leads old new (call.SetWrapMode mode) returned sets takes h k = unchanged old new _ k refl refl
   leads old new (call.SetLineNumberStyle style) returned sets takes h k = unchanged old new _ k refl refl

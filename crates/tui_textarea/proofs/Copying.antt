@@ -1,5 +1,5 @@
 -- A copy and a paste after it.
-use Rattle.std.proofs.Common.{◌≡◌, ℕ, ◌<◌, ◌==◌, ◌&&◌, ◌||◌, nat_lt, cond, true, false, List, [], ◌∷◌, length, Option, None, Some, ap, sym, refl, subst, ◌∙◌, arith}
+use Rattle.std.proofs.Common.{◌≡◌, ℕ, ◌<◌, ◌==◌, ◌&&◌, ◌||◌, nat_lt, cond, map, true, false, List, [], ◌∷◌, length, Option, None, Some, ap, sym, refl, subst, ◌∙◌, arith}
 use Rattle.std.specs.Option.{IfSome, MatchOption}
 use Rattle.std.proofs.lemmas.Bool.Decides.{nat_tests}
 use Rattle.textarea_text.specs.Text.{Symbol}
@@ -11,10 +11,14 @@ use Rattle.textarea_document.specs.Selection.{is_selected, selected, selection_e
 use Rattle.tui_textarea.specs.State.{State, with_document}
 use Rattle.tui_textarea.specs.Edits.{symbols_or_none_inserted, str_inserted}
 use Rattle.tui_textarea.specs.Grouping.{call_begun, call_ended}
+use Rattle.tui_textarea.specs.Guards.{admitted, is_editable, spaced, unless_read_only}
 use Rattle.tui_textarea.specs.TextAreaLaw.{PastesCopy, copied_and_pasted}
 use Rattle.tui_textarea.specs.Selection.{selection_copied, selection_cancelled}
 use Rattle.std.proofs.Math.Bool.{and-false}
+use Rattle.std.proofs.lemmas.Bool.{cond-false, not-true}
+use Rattle.std.proofs.lemmas.List.{length-map}
 use Rattle.textarea_document.proofs.Betweens.{between_some}
+use Rattle.tui_textarea.proofs.Cases.{by_test}
 
 not_less : (n : ℕ) → nat_lt n n ≡ false
 not_less n = grind (arith, nat_tests)
@@ -35,15 +39,20 @@ filled : (symbols : List Symbol) → 0 < length symbols → has_symbols symbols 
 filled [] h = absurd (omega (arith, h))
 filled (symbol ∷ symbols) h = refl
 
-pub pastes_copy : (state : State) → is_selected state.document ≡ true
+-- a symbol is inserted where there is one
+admitted-some : (state : State) (symbols : List Symbol) → 0 < length symbols → 0 < length (admitted state symbols)
+admitted-some state symbols some =
+    by_test (λ (s : List Symbol). 0 < length s) state.settings.single_line (map spaced symbols) symbols (λ single. omega (arith, some, length-map symbols spaced)) (λ several. some)
+
+pub pastes_copy : (state : State) → is_editable state ≡ true → is_selected state.document ≡ true
     → IsPlace state.document.text (selection_end state.document)
     → index_of state.document.text (selection_start state.document) < index_of state.document.text (selection_end state.document)
     → PastesCopy state
-pastes_copy state e place ordered =
+pastes_copy state editable e place ordered =
     record {
-      text = ap (λ (s : State). s.document.text) reached ∙ text_of (selected state.document) some;
-      cursor = ap (λ (s : State). s.document.cursor) reached ∙ cursor_of (selected state.document) some;
-      returned = ap (λ (s : State). has_symbols s.yank) copied_is ∙ filled (selected state.document) some;
+      text = ap (λ (s : State). s.document.text) reached ∙ text_of (admitted state (selected state.document)) (admitted-some state (selected state.document) some);
+      cursor = ap (λ (s : State). s.document.cursor) reached ∙ cursor_of (admitted state (selected state.document)) (admitted-some state (selected state.document) some);
+      returned = ap (λ (s : State). is_editable s && has_symbols s.yank) copied_is ∙ ap (λ b. b && has_symbols (selected state.document)) editable ∙ filled (selected state.document) some;
     }
   where
     after : State
@@ -55,10 +64,11 @@ pastes_copy state e place ordered =
     begun : State
     begun = call_begun after
 
-    reached : copied_and_pasted state ≡ call_ended after (symbols_or_none_inserted begun (selected state.document))
+    reached : copied_and_pasted state ≡ call_ended after (symbols_or_none_inserted begun (admitted state (selected state.document)))
     reached =
-        ap (λ (s : State). str_inserted s s.yank) copied_is
-        ∙ ap (λ b. call_ended after (symbols_or_none_inserted (with_document begun (cond b (between_removed begun.document (selection_start begun.document) (selection_end begun.document) begun.time) begun.document)) after.yank))
+        ap (λ (s : State). unless_read_only s (str_inserted s (admitted s s.yank))) copied_is
+        ∙ cond-false state.settings.read_only after (str_inserted after (admitted after after.yank)) (not-true state.settings.read_only editable)
+        ∙ ap (λ b. call_ended after (symbols_or_none_inserted (with_document begun (cond b (between_removed begun.document (selection_start begun.document) (selection_end begun.document) begun.time) begun.document)) (admitted after after.yank)))
         (none_selected state.document)
 
     some : 0 < length (selected state.document)

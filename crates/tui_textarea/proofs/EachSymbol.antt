@@ -13,7 +13,7 @@ use Rattle.textarea_document.specs.Edits.{Remove, RemoveAfter, RemoveBefore, Rem
 use Rattle.textarea_document.specs.Selection.{is_selected, selection_end, selection_start}
 use Rattle.textarea_document.specs.Splices.{after_splices, before_splices, break_splices, insertion_splices, range_splices_or, removal_splices, selected_splices}
 use Rattle.textarea_document.specs.Target.{word_end_after, word_start_before}
-use Rattle.tui_textarea.specs.CallSplices.{splices_of}
+use Rattle.tui_textarea.specs.Calls.{unguarded_splices}
 use Rattle.tui_textarea.specs.Edits.{spaces_to_stop}
 use Rattle.tui_textarea.specs.LayoutCalls.{tab_length}
 use Rattle.tui_textarea.specs.Removals.{cursor_line, in_line, is_at_line_end}
@@ -53,6 +53,10 @@ only-append P (splice ∷ xs) ys h k = (h.0, only-append P xs ys h.1 k)
 only-if : (P : Symbol → Type 0) (b : Bool) (xs ys : List Splice) → InsertOnly P xs → InsertOnly P ys → InsertOnly P (cond b xs ys)
 only-if P true xs ys h k = h
 only-if P false xs ys h k = k
+
+-- without any where a guard leaves the call out
+pub only_unless : (P : Symbol → Type 0) (barred : Bool) (splices : List Splice) → InsertOnly P splices → InsertOnly P (cond barred [] splices)
+only_unless P barred splices h = only-if P barred [] splices tt h
 
 removes : (P : Symbol → Type 0) (splice : Splice) → splice.inserts ≡ false → InsertOnly P (splice ∷ [])
 removes P splice is = ((λ inserts. let no : false ≡ true = sym is ∙ inserts in cc), tt)
@@ -102,7 +106,7 @@ only_selected_or : (P : Symbol → Type 0) (document : DocumentState) (other : L
 only_selected_or P document other h = only-if P (is_selected document) (selected_splices document) other (only_selected P document) h
 
 -- what each call inserts: a tab, as a character or as spaces; nothing
-pub only_tab : (P : Symbol → Type 0) (state : State) → P (Character 9) → P (Character 32) → InsertOnly P (splices_of state call.InsertTab)
+pub only_tab : (P : Symbol → Type 0) (state : State) → P (Character 9) → P (Character 32) → InsertOnly P (unguarded_splices state call.InsertTab)
 only_tab P state tab space =
     let spaces = replicate (spaces_to_stop (unselected state).document (tab_length state.document)) (Character 32) in
     only-if P (tab_length state.document == 0) (str_splices state []) (cond state.settings.hard_tab_indent (str_splices state (Character 9 ∷ [])) (str_splices state spaces))
@@ -111,30 +115,30 @@ only_tab P state tab space =
     (only_str P state (Character 9 ∷ []) (All-cons P (Character 9) [] tab (All-nil P)))
     (only_str P state spaces (All-replicate P (spaces_to_stop (unselected state).document (tab_length state.document)) (Character 32) space)))
 
-pub only_delete_char : (P : Symbol → Type 0) (state : State) → InsertOnly P (splices_of state call.DeleteChar)
+pub only_delete_char : (P : Symbol → Type 0) (state : State) → InsertOnly P (unguarded_splices state call.DeleteChar)
 only_delete_char P state = only_selected_or P state.document (before_splices state.document) (only_before P state.document)
 
-pub only_delete_next_char : (P : Symbol → Type 0) (state : State) → InsertOnly P (splices_of state call.DeleteNextChar)
+pub only_delete_next_char : (P : Symbol → Type 0) (state : State) → InsertOnly P (unguarded_splices state call.DeleteNextChar)
 only_delete_next_char P state = only_selected_or P state.document (after_splices state.document) (only_after P state.document)
 
-pub only_line_end : (P : Symbol → Type 0) (state : State) → InsertOnly P (splices_of state call.DeleteLineByEnd)
+pub only_line_end : (P : Symbol → Type 0) (state : State) → InsertOnly P (unguarded_splices state call.DeleteLineByEnd)
 only_line_end P state =
     let document = state.document in
     let to = in_line document (length (cursor_line document)) in
     only_selected_or P document (line_end_splices document)
     (only-if P (is_at_line_end document) (after_splices document) (removal_splices document document.cursor to) (only_after P document) (only_removal P document document.cursor to))
 
-pub only_line_head : (P : Symbol → Type 0) (state : State) → InsertOnly P (splices_of state call.DeleteLineByHead)
+pub only_line_head : (P : Symbol → Type 0) (state : State) → InsertOnly P (unguarded_splices state call.DeleteLineByHead)
 only_line_head P state = only_selected_or P state.document (line_head_splices state.document) (only_back_to P state.document (in_line state.document 0))
 
-pub only_word_before : (P : Symbol → Type 0) (state : State) → InsertOnly P (splices_of state call.DeleteWord)
+pub only_word_before : (P : Symbol → Type 0) (state : State) → InsertOnly P (unguarded_splices state call.DeleteWord)
 only_word_before P state =
     let document = state.document in
     let from = in_line document (word_start_before (cursor_line document) document.cursor.1) in
     only_selected_or P document (word_before_splices document)
     (only_range_or P (range_before document) document (cond (document.cursor.1 == 0) (break_splices document) (removal_splices document from document.cursor)) (only_back_to P document from))
 
-pub only_word_after : (P : Symbol → Type 0) (state : State) → InsertOnly P (splices_of state call.DeleteNextWord)
+pub only_word_after : (P : Symbol → Type 0) (state : State) → InsertOnly P (unguarded_splices state call.DeleteNextWord)
 only_word_after P state =
     let document = state.document in
     let to = in_line document (word_end_after (cursor_line document) document.cursor.1) in

@@ -18,6 +18,7 @@ mod GroupsOfCalls
 mod ReplacedAtOnce
 mod UndoneTexts
 pub mod FragmentTexts
+pub mod Spaced
 pub mod Searches
 mod EachSymbol
 mod ActionTexts
@@ -42,6 +43,8 @@ mod Replacing
 mod RangesOverActions
 mod Lifted
 mod Unedited
+mod ReadOnly
+mod Guarded
 mod Unselected
 mod CursorLine
 pub mod CallWraps

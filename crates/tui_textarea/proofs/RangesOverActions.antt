@@ -1,5 +1,5 @@
 -- How the atomic ranges move with the text, over each edit.
-use Rattle.std.proofs.Common.{◌≡◌, ℕ, Bool, List, [], ◌∷◌, ap, sym, subst, ◌∙◌}
+use Rattle.std.proofs.Common.{◌≡◌, ℕ, Bool, List, [], ◌∷◌, ap, refl, sym, subst, ◌∙◌}
 use Rattle.textarea_screen.specs.declared.screen.rect.Rect.{Rect}
 use Rattle.textarea_text.specs.Splice.{Fits, Splice, IsTextBefore}
 use Rattle.textarea_document.specs.RangesOverSplices.{RangesFollowSplices, RangesStayWhole}
@@ -52,4 +52,4 @@ ranges_stay_in_drawing old new area h =
 -- ---- calls
 
 pub past_follows : UndosGo → RedosGo → Past RangesFollowSplices
-past_follows undos redos = record { undos = undos; redos = redos }
+past_follows undos redos = record { undos = undos; redos = redos; stays = λ document. (stays document document refl refl).0 }

@@ -1,25 +1,27 @@
 -- How the atomic ranges move over each call, by the laws of the text area.
-use Rattle.std.proofs.Common.{◌≡◌, Bor, List, [], ◌∷◌, ap, refl, subst, sym, ◌∙◌}
+use Rattle.std.proofs.Common.{◌≡◌, Bool, Bor, List, [], ◌∷◌, cond, false, true, ap, refl, subst, sym, ◌∙◌}
 use Rattle.textarea_calls.specs.declared.action.Action.{Action}
 use Rattle.textarea_calls.specs.declared.action.Action.TheVariants as action
 use Rattle.textarea_data.specs.declared.range.AtomicRange.{AtomicRange}
 use Rattle.textarea_data.specs.declared.range.RejectedAtomicRange.{RejectedAtomicRange}
 use Rattle.textarea_text.specs.Splice.{CanApply, Splice}
 use Rattle.textarea_document.specs.RangesOverSplices.{SplitNoRange, RangesFollowSplices, RangesStayWhole}
-use Rattle.textarea_document.specs.Outcomes.{after_redo, after_undo}
 use Rattle.textarea_document.specs.Sound.{IsSound}
 use Rattle.textarea_document.specs.DocumentState.{DocumentState}
 use Rattle.textarea_document.proofs.RangesOverSplices.{stays}
 use Rattle.tui_textarea.specs.RangesOverActions.{RangesFollowAction}
 use Rattle.tui_textarea.specs.Input.{IsAfterAction, asked_by, asked_without_shortcuts, call_of_action, state_after_any}
-use Rattle.tui_textarea.specs.State.{State, with_document}
-use Rattle.tui_textarea.specs.Calls.{state_after, ranges_result, rejected_ranges, with_ranges_if}
-use Rattle.tui_textarea.specs.RangesOverCalls.{RangesFollowCall, IsUndoOrRedo, IsUndoOrRedoAct}
+use Rattle.tui_textarea.specs.State.{State}
+use Rattle.tui_textarea.specs.Calls.{state_after, ranges_result, rejected_ranges, with_lines, with_ranges_if}
+use Rattle.textarea_text.specs.Text.{lines_of}
+use Rattle.tui_textarea.specs.Guards.{bars_lines}
+use Rattle.tui_textarea.specs.RangesOverCalls.{NoRangeUnless, RangesFollowCall, IsUndoOrRedo, IsUndoOrRedoAct}
 use Rattle.tui_textarea.specs.Outcomes.{IsResultOf, IsAfterCall, IsAfterOutOfMemory}
 use Rattle.tui_textarea.specs.CallResults.{CallResult, Done}
 use Rattle.tui_textarea.specs.CallSplices.{OfSplicesOutOfMemory, splices_of, splices_by}
 use Rattle.textarea_calls.specs.declared.call.Call.{Call}
 use Rattle.textarea_calls.specs.declared.call.Call.TheVariants as call
+use Rattle.tui_textarea.proofs.Cases.{by_test}
 use Rattle.tui_textarea.proofs.Acting.{ByAct, ByCall, acts_by, calls_by, calls_left}
 use Rattle.tui_textarea.proofs.RangesOverActions.{RedosGo, EditsGo, UndosGo, ranges_stay_in_drawing, reckoning_of, past_follows}
 
@@ -45,6 +47,11 @@ set_ranges old new ranges [] returned e k =
 set_ranges old new ranges (range ∷ rejected) returned e k =
     subst (λ (a : CallResult). RangesFollowCall old (call.TrySetAtomicRanges ranges) a new) (sym e) (unchanged old new old k refl refl)
 
+-- lines that are set, or left out
+lines_set : (old new set : State) (barred : Bool) → set.document.ranges ≡ [] → new ≡ cond barred old set → NoRangeUnless barred old new
+lines_set old new set true none k = unchanged old new old k refl refl
+lines_set old new set false none k = ap (λ (s : State). s.document.ranges) k ∙ none
+
 -- ---- each call
 
 -- the state after a call that runs out of memory, by the splices that it has made
@@ -68,7 +75,7 @@ module _ (laws : TheLaws) where
   ranges_follow old new made returned h k = calls_by RangesStayWhole RangesFollowSplices (reckoning_of laws.edited) (past_follows laws.undone laws.redone) old new made returned h k
 
   pub ranges_follow_call : (old new : State) (made : Call) (returned : CallResult) → IsSound old.document → IsResultOf old made returned → IsAfterCall old made returned new → RangesFollowCall old made returned new
-  ranges_follow_call old new (call.SetLines lines cursor) returned h e k = ap (λ (s : State). s.document.ranges) k
+  ranges_follow_call old new (call.SetLines lines cursor) returned h e k = lines_set old new (with_lines old lines.now cursor) (bars_lines old (lines_of lines.now)) refl k
   ranges_follow_call old new call.ClearAtomicRanges returned h e k = ap (λ (s : State). s.document.ranges) k
   ranges_follow_call old new (call.TrySetAtomicRanges ranges) returned h e k = set_ranges old new ranges (rejected_ranges old ranges.now) returned e k
   ranges_follow_call old new (call.SetTabLength columns) returned h e k = unchanged old new _ k refl refl
@@ -93,8 +100,8 @@ module _ (laws : TheLaws) where
       follows_by_action asked old.document new.document _ (acts_by RangesStayWhole RangesFollowSplices (reckoning_of laws.edited) (past_follows laws.undone laws.redone) old new asked h k)
 
   act_fits : (state : State) (asked : Action) → IsSound state.document → Fitting state (IsUndoOrRedoAct asked) (splices_by state asked)
-  act_fits state action.Undo h = ((inputs_go state (with_document state (after_undo state.document)) action.Undo h refl).text.can, λ no. absurd (no tt))
-  act_fits state action.Redo h = ((inputs_go state (with_document state (after_redo state.document)) action.Redo h refl).text.can, λ no. absurd (no tt))
+  act_fits state action.Undo h = ((inputs_go state (state_after state call.Undo) action.Undo h refl).text.can, λ no. absurd (no tt))
+  act_fits state action.Redo h = ((inputs_go state (state_after state call.Redo) action.Redo h refl).text.can, λ no. absurd (no tt))
   act_fits state (action.MoveWithShift cursor_move shift) h = (tt, λ no. tt)
   act_fits state (action.ScrollWithShift scrolling shift) h = (tt, λ no. tt)
   act_fits state (action.Scroll scrolling) h = (tt, λ no. tt)
@@ -105,7 +112,7 @@ module _ (laws : TheLaws) where
   call_fits state call.Redo h = act_fits state action.Redo h
   call_fits state (call.Input input) h = act_fits state (asked_by input.now) h
   call_fits state (call.InputWithoutShortcuts input) h = act_fits state (asked_without_shortcuts input.now) h
-  call_fits state (call.SetLines lines cursor) h = (tt, λ no. tt)
+  call_fits state (call.SetLines lines cursor) h = by_test (Fitting state (IsUndoOrRedo (call.SetLines lines cursor))) (bars_lines state (lines_of lines.now)) [] [] (λ barred. (tt, λ no. tt)) (λ set. (tt, λ no. tt))
   call_fits state (call.SetTabLength columns) h = (tt, λ no. tt)
   call_fits state (call.SetWrapMode mode) h = (tt, λ no. tt)
   call_fits state (call.SetLineNumberStyle style) h = (tt, λ no. tt)

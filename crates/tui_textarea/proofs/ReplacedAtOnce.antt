@@ -23,7 +23,8 @@ use Rattle.textarea_document.specs.Splices.{insertion_splices}
 use Rattle.textarea_document.proofs.Orders.{index_before}
 use Rattle.textarea_document.proofs.Sounds.{sound_begun, sound_edited, start_is_place}
 use Rattle.textarea_document.proofs.StepLaw.{step_keeps}
-use Rattle.tui_textarea.specs.Calls.{call_splices, state_after}
+use Rattle.tui_textarea.specs.Calls.{call_splices, state_after, unguarded_after, unguarded_splices}
+use Rattle.tui_textarea.specs.Guards.{admitted, barred_after, is_barred}
 use Rattle.tui_textarea.specs.GroupLaw.{IsReplacement, IsReplacementUndoneAtOnce, MakesFewEdits}
 use Rattle.tui_textarea.specs.Replacing.{end_of_match, is_empty_match, match_at_cursor, match_replaced_by, match_splices_by, replaceable, start_of_match, with_range_replaced}
 use Rattle.tui_textarea.specs.Search.{after_search, next_match}
@@ -32,7 +33,7 @@ use Rattle.tui_textarea.proofs.Cases.{by_both, by_test}
 use Rattle.tui_textarea.proofs.GroupsOfCalls.{EndsWith, first_recorded, group_taken_back, more_recorded}
 use Rattle.tui_textarea.proofs.Replacing.{stretch_is}
 use Rattle.tui_textarea.proofs.SoundStates.{sound_at}
-use Rattle.tui_textarea.proofs.StaysSound.{state_stays_sound}
+use Rattle.tui_textarea.proofs.StaysSound.{unguarded_stays_sound}
 use Rattle.tui_textarea.proofs.Stepping.{nothing_stays_sound}
 use Rattle.tui_textarea.proofs.Targets.{index_is_place}
 use Rattle.tui_textarea.proofs.UndoneAtOnce.{HasEdits}
@@ -212,15 +213,20 @@ module _ (state : State) (sound : IsSound state.document) (closed : is_open stat
       taken_back document.log.maximum document.text inner (ended_after document inner) (all_splices document (stretch ∷ rest) symbols state.time)
       (each document.log.maximum document.text at_start 0 (stretch ∷ rest) symbols state.time [] first (omega (arith, room))) some is_sound (ended_edits document inner)
 
+  unguarded_call : (made : Call) → IsReplacement made → 0 < length (unguarded_splices state made) → length (unguarded_splices state made) ≤ state.document.log.maximum → Back state (unguarded_after state made)
+  unguarded_call (call.ReplaceRange from to text) is some room =
+      let symbols = admitted state (fragment_symbols (chars text.now)) in
+      range_back from to symbols (with_range_replaced state from to symbols) (unguarded_stays_sound state (call.ReplaceRange from to text) sound tt) (record { text_is = refl; done = refl; marks = refl }) some room
+  unguarded_call (call.ReplaceMatch text) is some room =
+      match_back (match_at_cursor state) (admitted state (fragment_symbols (chars text.now))) (unguarded_stays_sound state (call.ReplaceMatch text) sound tt) some room
+  unguarded_call (call.ReplaceAll text) is some room =
+      all_back (replaceable state) (admitted state (fragment_symbols (chars text.now))) (unguarded_stays_sound state (call.ReplaceAll text) sound tt) some room
+  unguarded_call made is some room = absurd is
+
   by_call : (made : Call) → IsReplacement made → 0 < length (call_splices state made) → length (call_splices state made) ≤ state.document.log.maximum → Back state (state_after state made)
-  by_call (call.ReplaceRange from to text) is some room =
-      let symbols = fragment_symbols (chars text.now) in
-      range_back from to symbols (with_range_replaced state from to symbols) (state_stays_sound state (call.ReplaceRange from to text) sound tt) (record { text_is = refl; done = refl; marks = refl }) some room
-  by_call (call.ReplaceMatch text) is some room =
-      match_back (match_at_cursor state) (fragment_symbols (chars text.now)) (state_stays_sound state (call.ReplaceMatch text) sound tt) some room
-  by_call (call.ReplaceAll text) is some room =
-      all_back (replaceable state) (fragment_symbols (chars text.now)) (state_stays_sound state (call.ReplaceAll text) sound tt) some room
-  by_call made is some room = absurd is
+  by_call made is =
+      by_both (λ (splices : List Splice) (new : State). 0 < length splices → length splices ≤ state.document.log.maximum → Back state new) (is_barred state made) [] (unguarded_splices state made)
+      (barred_after state made) (unguarded_after state made) (λ barred some room. absurd (omega (arith, some))) (λ free. unguarded_call made is)
 
 pub replacement_undone_at_once : (state : State) (made : Call) → IsSound state.document → IsReplacement made → IsReplacementUndoneAtOnce state made
 replacement_undone_at_once state made sound is closed some room = by_call state sound closed made is some room

@@ -12,13 +12,13 @@ use Rattle.textarea_document.specs.DocumentRows.{text_and_layout}
 use Rattle.textarea_document.specs.Sound.{IsSound}
 use Rattle.textarea_view.specs.Measure.{width_inside}
 use Rattle.tui_textarea.specs.CallResults.{CallResult, PatternRejected}
-use Rattle.tui_textarea.specs.Calls.{state_after}
+use Rattle.tui_textarea.specs.Calls.{state_after, unguarded_after}
 use Rattle.tui_textarea.specs.Drawing.{viewport_scrolled}
 use Rattle.tui_textarea.specs.Input.{IsAfterAction, asked_by, asked_without_shortcuts}
 use Rattle.tui_textarea.specs.Moves.{IsMovedWith, pushed}
 use Rattle.tui_textarea.specs.Outcomes.{IsAfterCall, IsAfterOutOfMemory}
 use Rattle.tui_textarea.specs.State.{State}
-use Rattle.tui_textarea.proofs.Acting.{Fact, Past, by_state, left, the_call}
+use Rattle.tui_textarea.proofs.Acting.{Fact, Past, by_state, left, the_call, unguarded_by}
 use Rattle.tui_textarea.proofs.Frames.{drawn_document}
 use Rattle.tui_textarea.proofs.SoundStates.{pushed_is_place, sound_goes, sound_settings}
 use Rattle.tui_textarea.proofs.Stepping.{Reckoning, selected_by}
@@ -38,7 +38,10 @@ any : Reckoning Any
 any = record { none = λ old new same. tt; same = λ old new other splices same h. tt; two = λ old between new first second h k. tt; one = λ document splice typed now fits whole. tt }
 
 past_any : Past Any
-past_any = record { undos = λ document h. tt; redos = λ document h. tt }
+past_any = record { undos = λ document h. tt; redos = λ document h. tt; stays = λ document. tt }
+
+pub unguarded_stays_sound : (old : State) (made : Call) → HasSound old → CanBeMade made → HasSound (unguarded_after old made)
+unguarded_stays_sound old made h can = (unguarded_by Any Any any past_any old made h).1 can
 
 pub state_stays_sound : (old : State) (made : Call) → HasSound old → CanBeMade made → HasSound (state_after old made)
 state_stays_sound old made h can = (by_state Any Any any past_any old made h).1 can

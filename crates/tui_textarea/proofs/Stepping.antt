@@ -30,6 +30,7 @@ use Rattle.textarea_document.proofs.StepLaw.{step_keeps}
 use Rattle.tui_textarea.specs.Edits.{breaks_line, char_inserted, char_or_break_inserted, line_broken, newline_inserted, spaces_to_stop, str_inserted, symbols_or_none_inserted}
 use Rattle.tui_textarea.specs.Edits.{tab_inserted, tab_or_spaces_inserted, typed_character_inserted}
 use Rattle.tui_textarea.specs.Grouping.{call_begun, call_ended}
+use Rattle.tui_textarea.specs.Guards.{has_several_lines, made_single, single_line_set}
 use Rattle.tui_textarea.specs.LayoutCalls.{tab_length}
 use Rattle.tui_textarea.specs.Moves.{IsMovedWith, after_move_by, pushed}
 use Rattle.tui_textarea.specs.Ranges.{atomic_range_removed}
@@ -293,6 +294,16 @@ module _ (By : DocumentState → List Splice → DocumentState → Type 0) (by :
       by_both (From state) (tab_length state.document == 0) _ _ _ _
       (λ none. after_removal state (selection_cancelled left) _ h (λ sound. unanchored_by left.document sound))
       (λ some. by_both (From state) left.settings.hard_tab_indent _ _ _ _ (λ hard. typed_by state 9 h) (λ soft. str_replaced state spaces h))
+
+  -- ---- in a single line
+
+  pub single_by : (state : State) (single_line : Bool) → IsSound state.document → From state [] (single_line_set state single_line)
+  single_by state false h = kept state.document state.document refl h
+  single_by state true h =
+      by_test (From state []) (has_several_lines state) state (made_single state)
+      (λ several. kept state.document state.document refl h)
+      (λ one. kept state.document (made_single state).document refl
+      (record { cursor = h.cursor; anchor = h.anchor; ranges = h.ranges; in_order = h.in_order; undo = tt; redo = tt; bounded = omega arith; marks = refl; whole = refl }))
 
   -- ---- in a group of their own
 

@@ -1,6 +1,6 @@
 -- A text of one line with the cursor after it, over the calls that type a character, remove the last
 -- one, and clear the text.
-use Rattle.std.proofs.Common.{◌≡◌, ◌∙◌, ℕ, zero, suc, ◌+◌, ◌-◌, ◌≤◌, Bool, true, false, cond, List, [], ◌∷◌, ◌++◌, length, take, drop, Option, None, inl, inr, refl, subst, sym, ap, arith, take_all}
+use Rattle.std.proofs.Common.{◌≡◌, ◌∙◌, ℕ, zero, suc, ◌+◌, ◌-◌, ◌≤◌, ◌&&◌, ◌||◌, Bool, true, false, cond, List, [], ◌∷◌, ◌++◌, length, take, drop, Option, None, inl, inr, refl, subst, sym, ap, arith, take_all, ⊎_elim}
 use Rattle.std.proofs.lemmas.Bool.{cond-false}
 use Rattle.std.proofs.lemmas.Bool.Decides.{nat_tests}
 use Rattle.std.proofs.lemmas.List.{append-nil, drop_all, length-drop, length-take-le, length_push}
@@ -11,15 +11,17 @@ use Rattle.textarea_text.specs.Place.{Place, end, index_of, is_before, place_of,
 use Rattle.textarea_text.specs.Text.{Symbol, Character, characters}
 use Rattle.textarea_text.proofs.Splices.{characters-append, end-characters, length-characters}
 use Rattle.textarea_document.specs.DocumentState.{DocumentState}
-use Rattle.textarea_document.specs.Edits.{RemoveBefore, between_removed, is_at_start, removed_before, stepped}
+use Rattle.textarea_document.specs.Edits.{RemoveBefore, between_removed, has_symbols, is_at_start, removed_before, stepped}
 use Rattle.textarea_document.specs.Outcomes.{unanchored}
 use Rattle.textarea_document.specs.Selection.{is_selected}
 use Rattle.tui_textarea.specs.Edits.{breaks_line, char_inserted, char_or_break_inserted, line_broken, typed_character_inserted}
 use Rattle.tui_textarea.specs.Grouping.{call_begun, call_ended}
+use Rattle.tui_textarea.specs.Guards.{bars_character, unless_read_only}
 use Rattle.tui_textarea.specs.Removals.{symbol_before_removed, text_cleared, unselected_or, yanked}
 use Rattle.tui_textarea.specs.Selection.{IsInsertOutOfMemory, unselected}
 use Rattle.tui_textarea.specs.State.{State, with_document}
 use Rattle.tui_textarea.specs.TypedLine.{IsTypedLine}
+use Rattle.tui_textarea.specs.declared.textarea.settings.Settings.{Settings}
 
 -- ---- characters
 
@@ -34,6 +36,13 @@ take-characters (suc n) (c ∷ cs) = ap (λ (rest : List Symbol). Character c �
 
 -- ---- the document
 
+-- the text has these characters, and the cursor is after them, whether it can be edited or not
+record HasLine (state : State) (typed : List ℕ) : Type 0 where
+  text : state.document.text ≡ characters typed
+  cursor : state.document.cursor ≡ (0, length typed)
+  anchor : state.document.anchor ≡ None
+  ranges : state.document.ranges ≡ []
+
 -- the document with these characters, the cursor after them, and nothing else
 abbrev ending : DocumentState → List ℕ → DocumentState
 ending document typed = record document { text = characters typed; cursor = (0, length typed); anchor = None; ranges = [] }
@@ -41,7 +50,7 @@ ending document typed = record document { text = characters typed; cursor = (0, 
 abbrev HasParts : DocumentState → List Symbol → Place → Option Place → List AtomicRange → Type 0
 HasParts document text cursor anchor ranges = document ≡ record document { text = text; cursor = cursor; anchor = anchor; ranges = ranges }
 
-is_ending : (state : State) (typed : List ℕ) → IsTypedLine state typed → state.document ≡ ending state.document typed
+is_ending : (state : State) (typed : List ℕ) → HasLine state typed → state.document ≡ ending state.document typed
 is_ending state typed h =
     let document = state.document in
     subst (λ (t : List Symbol). HasParts document t (0, length typed) None []) h.text
@@ -52,7 +61,7 @@ is_ending state typed h =
 abbrev ending_state : State → List ℕ → State
 ending_state state typed = with_document state (ending state.document typed)
 
-is_ending_state : (state : State) (typed : List ℕ) → IsTypedLine state typed → state ≡ ending_state state typed
+is_ending_state : (state : State) (typed : List ℕ) → HasLine state typed → state ≡ ending_state state typed
 is_ending_state state typed h = ap (with_document state) (is_ending state typed h)
 
 not_before : (place : Place) → is_before place place ≡ false
@@ -77,7 +86,7 @@ grown text symbol index is =
     ap (λ (front : List Symbol). front ++ (symbol ∷ drop index text)) (take_all index text (omega (arith, is)))
     ∙ ap (λ (back : List Symbol). text ++ symbol ∷ back) (drop_all index text (omega (arith, is)))
 
-character_holds : (state : State) (typed : List ℕ) (c : ℕ) → IsTypedLine (typed_character_inserted (ending_state state typed) c) (typed ++ c ∷ [])
+character_holds : (state : State) (typed : List ℕ) (c : ℕ) → HasLine (typed_character_inserted (ending_state state typed) c) (typed ++ c ∷ [])
 unfolding moved_ranges
 character_holds state typed c = record {
   text = grown (characters typed) (Character c) (index_of (characters typed) (0, length typed)) (omega (arith, length-characters typed)) ∙ sym (characters-append typed (c ∷ []));
@@ -87,24 +96,24 @@ character_holds state typed c = record {
 }
 
 -- the character replaces the selected text, of which there is none
-replaced : (state : State) (typed : List ℕ) (c : ℕ) → IsTypedLine state typed → breaks_line c ≡ false → IsTypedLine (char_or_break_inserted (unselected state) c) (typed ++ c ∷ [])
+replaced : (state : State) (typed : List ℕ) (c : ℕ) → HasLine state typed → breaks_line c ≡ false → HasLine (char_or_break_inserted (unselected state) c) (typed ++ c ∷ [])
 replaced state typed c h breaks =
     let at_end = ending_state state typed in
     let one : char_or_break_inserted (unselected state) c ≡ char_or_break_inserted (unselected at_end) c = ap (λ (s : State). char_or_break_inserted (unselected s) c) (is_ending_state state typed h) in
     let two : char_or_break_inserted (unselected at_end) c ≡ char_or_break_inserted at_end c = ap (λ (s : State). char_or_break_inserted s c) (stays_unselected state typed) in
     let three : char_or_break_inserted at_end c ≡ typed_character_inserted at_end c = cond-false (breaks_line c) (line_broken at_end) (typed_character_inserted at_end c) breaks in
-    subst (λ (s : State). IsTypedLine s (typed ++ c ∷ [])) (sym (one ∙ two ∙ three)) (character_holds state typed c)
+    subst (λ (s : State). HasLine s (typed ++ c ∷ [])) (sym (one ∙ two ∙ three)) (character_holds state typed c)
 
 -- a group of edits that begins or ends changes nothing of it
-begun : (state : State) (typed : List ℕ) → IsTypedLine state typed → IsTypedLine (call_begun state) typed
+begun : (state : State) (typed : List ℕ) → HasLine state typed → HasLine (call_begun state) typed
 begun state typed h = record { text = h.text; cursor = h.cursor; anchor = h.anchor; ranges = h.ranges }
 
-ended : (old new : State) (typed : List ℕ) → IsTypedLine new typed → IsTypedLine (call_ended old new) typed
+ended : (old new : State) (typed : List ℕ) → HasLine new typed → HasLine (call_ended old new) typed
 ended old new typed h = record { text = h.text; cursor = h.cursor; anchor = h.anchor; ranges = h.ranges }
 
-pub character_typed : (state new : State) (typed : List ℕ) (c : ℕ) → IsTypedLine state typed → breaks_line c ≡ false → new ≡ char_inserted state c → IsTypedLine new (typed ++ c ∷ [])
-character_typed state new typed c h breaks is =
-    subst (λ (s : State). IsTypedLine s (typed ++ c ∷ [])) (sym is)
+line_typed : (state new : State) (typed : List ℕ) (c : ℕ) → HasLine state typed → breaks_line c ≡ false → new ≡ char_inserted state c → HasLine new (typed ++ c ∷ [])
+line_typed state new typed c h breaks is =
+    subst (λ (s : State). HasLine s (typed ++ c ∷ [])) (sym is)
     (ended state (char_or_break_inserted (unselected (call_begun state)) c) (typed ++ c ∷ []) (replaced (call_begun state) typed c (begun state typed h) breaks))
 
 -- ---- Enter
@@ -118,7 +127,7 @@ whole_index typed =
     ap (end (0, 0)) (take_all (length (characters typed)) (characters typed) (omega arith)) ∙ end-characters 0 0 typed in
     ap (index_of (characters typed)) to ∙ omega (arith, length-characters typed)
 
-yanked_holds : (state : State) (typed : List ℕ) → IsTypedLine (yanked (ending_state state typed) (0, 0) (place_of (characters typed) (length (characters typed)))) []
+yanked_holds : (state : State) (typed : List ℕ) → HasLine (yanked (ending_state state typed) (0, 0) (place_of (characters typed) (length (characters typed)))) []
 unfolding moved_ranges yanked between_removed
 yanked_holds state typed = record {
   text = emptied (characters typed) (index_of (characters typed) (place_of (characters typed) (length (characters typed))) - 0) (omega (arith, whole_index typed));
@@ -127,13 +136,13 @@ yanked_holds state typed = record {
   ranges = refl;
 }
 
-cleared_holds : (state : State) (typed : List ℕ) → IsTypedLine (text_cleared (ending_state state typed)) []
+cleared_holds : (state : State) (typed : List ℕ) → HasLine (text_cleared (ending_state state typed)) []
 cleared_holds state [] = record { text = refl; cursor = refl; anchor = refl; ranges = refl }
 cleared_holds state (c ∷ cs) = yanked_holds state (c ∷ cs)
 
-pub text_sent : (state new : State) (typed : List ℕ) → IsTypedLine state typed → new ≡ text_cleared state → IsTypedLine new []
-text_sent state new typed h is =
-    subst (λ (s : State). IsTypedLine s []) (sym (is ∙ ap text_cleared (is_ending_state state typed h))) (cleared_holds state typed)
+line_cleared : (state new : State) (typed : List ℕ) → HasLine state typed → new ≡ text_cleared state → HasLine new []
+line_cleared state new typed h is =
+    subst (λ (s : State). HasLine s []) (sym (is ∙ ap text_cleared (is_ending_state state typed h))) (cleared_holds state typed)
 
 -- ---- Backspace
 
@@ -151,7 +160,7 @@ without_last typed index last =
     ∙ ap (λ (back : List Symbol). take (index_of text (0, index)) text ++ back) (drop_all (index_of text (0, index) + length symbols) text (omega (arith, one, last, length-characters typed)))
     ∙ append-nil (take (index_of text (0, index)) text) ∙ ap (λ (n : ℕ). take n text) (omega arith) ∙ take-characters index typed
 
-before_holds : (state : State) (c : ℕ) (cs : List ℕ) → IsTypedLine (with_document state (stepped (ending state.document (c ∷ cs)) RemoveBefore state.settings.undo_coalescing state.time)) (take (length (c ∷ cs) - 1) (c ∷ cs))
+before_holds : (state : State) (c : ℕ) (cs : List ℕ) → HasLine (with_document state (stepped (ending state.document (c ∷ cs)) RemoveBefore state.settings.undo_coalescing state.time)) (take (length (c ∷ cs) - 1) (c ∷ cs))
 unfolding moved_ranges
 before_holds state c cs =
     let typed = c ∷ cs in
@@ -165,27 +174,83 @@ before_holds state c cs =
       ranges = refl;
     }
 
-removed_holds : (state : State) (typed : List ℕ) → IsTypedLine (symbol_before_removed (ending_state state typed)) (take (length typed - 1) typed)
+removed_holds : (state : State) (typed : List ℕ) → HasLine (symbol_before_removed (ending_state state typed)) (take (length typed - 1) typed)
 unfolding removed_before
 removed_holds state [] = record { text = refl; cursor = refl; anchor = refl; ranges = refl }
 removed_holds state (c ∷ cs) =
     let document = ending state.document (c ∷ cs) in
-    subst (λ (d : DocumentState). IsTypedLine (with_document state d) (take (length (c ∷ cs) - 1) (c ∷ cs)))
+    subst (λ (d : DocumentState). HasLine (with_document state d) (take (length (c ∷ cs) - 1) (c ∷ cs)))
     (sym (cond-false (is_at_start document) (unanchored document) (stepped document RemoveBefore state.settings.undo_coalescing state.time) (grind (arith, nat_tests))))
     (before_holds state c cs)
 
-pub character_removed : (state new : State) (typed : List ℕ) → IsTypedLine state typed → new ≡ unselected_or state (symbol_before_removed state) → IsTypedLine new (take (length typed - 1) typed)
-character_removed state new typed h is =
+line_shortened : (state new : State) (typed : List ℕ) → HasLine state typed → new ≡ unselected_or state (symbol_before_removed state) → HasLine new (take (length typed - 1) typed)
+line_shortened state new typed h is =
     let at_end = ending_state state typed in
     let one = ap (λ (s : State). unselected_or s (symbol_before_removed s)) (is_ending_state state typed h) in
     let two : unselected_or at_end (symbol_before_removed at_end) ≡ symbol_before_removed at_end =
     cond-false (is_selected at_end.document) (unselected at_end) (symbol_before_removed at_end) (none_selected state.document typed) in
-    subst (λ (s : State). IsTypedLine s (take (length typed - 1) typed)) (sym (is ∙ one ∙ two)) (removed_holds state typed)
+    subst (λ (s : State). HasLine s (take (length typed - 1) typed)) (sym (is ∙ one ∙ two)) (removed_holds state typed)
 
 -- ---- out of memory
 
-pub typing_failed : (state new : State) (typed : List ℕ) → IsTypedLine state typed → IsInsertOutOfMemory state new → IsTypedLine new typed
-typing_failed state new typed h (inl same) = subst (λ (s : State). IsTypedLine s typed) (sym same) h
-typing_failed state new typed h (inr gone) =
-    subst (λ (s : State). IsTypedLine s typed) (sym (gone ∙ ap unselected (is_ending_state state typed h) ∙ stays_unselected state typed))
+line_left : (state new : State) (typed : List ℕ) → HasLine state typed → IsInsertOutOfMemory state new → HasLine new typed
+line_left state new typed h (inl same) = subst (λ (s : State). HasLine s typed) (sym same) h
+line_left state new typed h (inr gone) =
+    subst (λ (s : State). HasLine s typed) (sym (gone ∙ ap unselected (is_ending_state state typed h) ∙ stays_unselected state typed))
     (record { text = refl; cursor = refl; anchor = refl; ranges = refl })
+
+-- ---- in a text area that can be edited
+
+line_of : (state : State) (typed : List ℕ) → IsTypedLine state typed → HasLine state typed
+line_of state typed h = record { text = h.text; cursor = h.cursor; anchor = h.anchor; ranges = h.ranges }
+
+-- the state has the line, and its settings are those of a text area that can be edited
+holds : (old new made : State) (typed more : List ℕ) → IsTypedLine old typed → new ≡ unless_read_only old made → made.settings ≡ old.settings
+    → (new ≡ made → HasLine new more) → IsTypedLine new more
+holds old new made typed more h is same k =
+    let made_is : new ≡ made = is ∙ cond-false old.settings.read_only old made h.editable in
+    let line = k made_is in
+    record {
+      text = line.text;
+      cursor = line.cursor;
+      anchor = line.anchor;
+      ranges = line.ranges;
+      editable = ap (λ (s : State). s.settings.read_only) made_is ∙ ap (λ (s : Settings). s.read_only) same ∙ h.editable;
+    }
+
+-- whatever a test chooses has the settings
+either : (state : State) (b : Bool) (x y : State) → x.settings ≡ state.settings → y.settings ≡ state.settings → (cond b x y).settings ≡ state.settings
+either state true x y h k = h
+either state false x y h k = k
+
+pub character_typed : (state new : State) (typed : List ℕ) (c : ℕ) → IsTypedLine state typed → breaks_line c ≡ false → new ≡ cond (bars_character state c) state (char_inserted state c)
+    → IsTypedLine new (typed ++ c ∷ [])
+character_typed state new typed c h breaks is =
+    let left = unselected (call_begun state) in
+    holds state new (char_inserted state c) typed (typed ++ c ∷ []) h (is ∙ ap (λ (b : Bool). cond (b && state.settings.single_line || state.settings.read_only) state (char_inserted state c)) breaks) (either state (breaks_line c) (line_broken left) (typed_character_inserted left c) refl refl)
+    (λ made. line_typed state new typed c (line_of state typed h) breaks made)
+
+pub text_sent : (state new : State) (typed : List ℕ) → IsTypedLine state typed → new ≡ unless_read_only state (text_cleared state) → IsTypedLine new []
+unfolding yanked
+text_sent state new typed h is =
+    let text = state.document.text in
+    holds state new (text_cleared state) typed [] h is (either state (has_symbols text) (yanked state (0, 0) (place_of text (length text))) state refl refl)
+    (λ made. line_cleared state new typed (line_of state typed h) made)
+
+pub character_removed : (state new : State) (typed : List ℕ) → IsTypedLine state typed → new ≡ unless_read_only state (unselected_or state (symbol_before_removed state))
+    → IsTypedLine new (take (length typed - 1) typed)
+character_removed state new typed h is =
+    holds state new (unselected_or state (symbol_before_removed state)) typed (take (length typed - 1) typed) h is
+    (either state (is_selected state.document) (unselected state) (symbol_before_removed state) refl refl)
+    (λ made. line_shortened state new typed (line_of state typed h) made)
+
+pub typing_failed : (state new : State) (typed : List ℕ) → IsTypedLine state typed → IsInsertOutOfMemory state new → IsTypedLine new typed
+typing_failed state new typed h left =
+    let line = line_left state new typed (line_of state typed h) left in
+    record {
+      text = line.text;
+      cursor = line.cursor;
+      anchor = line.anchor;
+      ranges = line.ranges;
+      editable = ⊎_elim (λ same. ap (λ (s : State). s.settings.read_only) same ∙ h.editable) (λ gone. ap (λ (s : State). s.settings.read_only) gone ∙ h.editable) left;
+    }

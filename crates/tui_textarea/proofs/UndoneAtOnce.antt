@@ -27,7 +27,8 @@ use Rattle.textarea_document.proofs.StepLaw.{step_keeps}
 use Rattle.textarea_text.specs.Fragment.{fragment_symbols, pasted_symbols}
 use Rattle.textarea_calls.specs.declared.call.Call.{Call}
 use Rattle.textarea_calls.specs.declared.call.Call.TheVariants as call
-use Rattle.tui_textarea.specs.Calls.{call_splices, state_after}
+use Rattle.tui_textarea.specs.Calls.{call_splices, state_after, unguarded_after, unguarded_splices}
+use Rattle.tui_textarea.specs.Guards.{admitted, barred_after, is_barred}
 use Rattle.tui_textarea.specs.Edits.{breaks_line, char_or_break_inserted, line_broken, spaces_to_stop, symbols_or_none_inserted, tab_or_spaces_inserted, typed_character_inserted}
 use Rattle.tui_textarea.specs.GroupLaw.{IsEditUndoneAtOnce, IsInsertion, IsUndoneAtOnce}
 use Rattle.tui_textarea.specs.Grouping.{call_begun, call_ended}
@@ -305,16 +306,21 @@ module _ (state : State) (starts : StartsGroup state) where
       (λ none some. removed_back state (call_ended state (selection_cancelled start)).document starts (some_selected (call_begun state) some) (record { text_is = refl; done = refl; marks = refl }))
       (λ tabs. by_both (BackIf state) state.settings.hard_tab_indent _ _ _ _ (λ hard. typed_back 9) (λ soft. str_back spaces))
 
+  unguarded_call : (made : Call) → IsInsertion made → 0 < length (unguarded_splices state made) → Back state (unguarded_after state made).document
+  unguarded_call (call.InsertChar c) is some = char_back c (subst (λ (s : List Splice). 0 < length s) (sym (char_beside state c)) some)
+  unguarded_call (call.InsertStr text) is some =
+      let symbols = admitted state (fragment_symbols (chars text.now)) in str_back symbols (subst (λ (s : List Splice). 0 < length s) (sym (str_beside state symbols)) some)
+  unguarded_call (call.InsertPasted text) is some =
+      let symbols = admitted state (pasted_symbols (chars text.now)) in str_back symbols (subst (λ (s : List Splice). 0 < length s) (sym (str_beside state symbols)) some)
+  unguarded_call call.InsertTab is some = tab_back (subst (λ (s : List Splice). 0 < length s) (sym (tab_beside state)) some)
+  unguarded_call call.InsertNewline is some = break_back (subst (λ (s : List Splice). 0 < length s) (sym (str_beside state (Break ∷ []))) some)
+  unguarded_call call.Paste is some = str_back (admitted state state.yank) (subst (λ (s : List Splice). 0 < length s) (sym (str_beside state (admitted state state.yank))) some)
+  unguarded_call made is some = absurd is
+
   by_call : (made : Call) → IsInsertion made → 0 < length (call_splices state made) → Back state (state_after state made).document
-  by_call (call.InsertChar c) is some = char_back c (subst (λ (s : List Splice). 0 < length s) (sym (char_beside state c)) some)
-  by_call (call.InsertStr text) is some =
-      let symbols = fragment_symbols (chars text.now) in str_back symbols (subst (λ (s : List Splice). 0 < length s) (sym (str_beside state symbols)) some)
-  by_call (call.InsertPasted text) is some =
-      let symbols = pasted_symbols (chars text.now) in str_back symbols (subst (λ (s : List Splice). 0 < length s) (sym (str_beside state symbols)) some)
-  by_call call.InsertTab is some = tab_back (subst (λ (s : List Splice). 0 < length s) (sym (tab_beside state)) some)
-  by_call call.InsertNewline is some = break_back (subst (λ (s : List Splice). 0 < length s) (sym (str_beside state (Break ∷ []))) some)
-  by_call call.Paste is some = str_back state.yank (subst (λ (s : List Splice). 0 < length s) (sym (str_beside state state.yank)) some)
-  by_call made is some = absurd is
+  by_call made is =
+      by_both (λ (splices : List Splice) (new : State). 0 < length splices → Back state new.document) (is_barred state made) [] (unguarded_splices state made) (barred_after state made)
+      (unguarded_after state made) (λ barred some. absurd (omega (arith, some))) (λ free. unguarded_call made is)
 
 pub undone_at_once : (state : State) (made : Call) → IsSound state.document → IsInsertion made → IsUndoneAtOnce state made
 undone_at_once state made sound is grouping closed several no_run some =

@@ -1,5 +1,5 @@
 -- The texts that undos reach.
-use Rattle.std.proofs.Common.{◌≡◌, ◌≢◌, ◌↔◌, ◌∙◌, ℕ, zero, suc, ◌-◌, ◌<◌, ◌≤◌, Bool, true, false, List, [], ◌∷◌, length, is_some, refl, sym, subst, ap, arith}
+use Rattle.std.proofs.Common.{◌≡◌, ◌≢◌, ◌↔◌, ◌∙◌, ◌&&◌, ℕ, zero, suc, ◌-◌, ◌<◌, ◌≤◌, Bool, true, false, List, [], ◌∷◌, length, is_some, refl, sym, subst, ap, arith}
 use Rattle.std.specs.List.{slice_get}
 use Rattle.textarea_history.specs.Groups.{group_count}
 use Rattle.textarea_history.specs.HistoryLaw.{times}
@@ -11,8 +11,11 @@ use Rattle.textarea_text.specs.Splice.{Splice}
 use Rattle.textarea_document.specs.DocumentLaw.{RestoresDocument}
 use Rattle.textarea_document.specs.DocumentState.{DocumentState}
 use Rattle.textarea_document.specs.Outcomes.{after_undo}
-use Rattle.tui_textarea.specs.State.{State}
-use Rattle.tui_textarea.specs.TextsBefore.{ReachesBack, StepsBack}
+use Rattle.std.proofs.lemmas.Bool.{and_parts, cond-false, not-true}
+use Rattle.tui_textarea.specs.Guards.{is_editable}
+use Rattle.tui_textarea.specs.State.{State, with_document}
+use Rattle.tui_textarea.specs.TextsBefore.{ReachesBack, StepsBack, state_undone, undoes}
+use Rattle.tui_textarea.proofs.Cases.{by_test}
 
 -- ---- the number of done groups
 
@@ -59,15 +62,35 @@ at_last : (document : DocumentState) (written : List ℕ) (count : ℕ) → is_s
 at_last document written zero none within is = is
 at_last document written (suc count) none within is = absurd (omega (arith, within, no_groups document.log none))
 
+-- ---- an undo in a text area that may be read only
+
+undoes_parts : (state : State) → undoes state ≡ true → (state.settings.read_only ≡ false) × (is_some (newest state.document.log) ≡ true)
+undoes_parts state found =
+    let parts = and_parts (is_editable state) (is_some (newest state.document.log)) found in (not-true state.settings.read_only parts.0, parts.1)
+
+undone_is : (state new : State) → undoes state ≡ true → new ≡ state_undone state → new ≡ with_document state (after_undo state.document)
+undone_is state new found is = is ∙ cond-false state.settings.read_only state (with_document state (after_undo state.document)) (undoes_parts state found).0
+
+nothing_found : (state : State) → is_editable state ≡ true → undoes state ≡ false → is_some (newest state.document.log) ≡ false
+nothing_found state editable none = sym (ap (λ (b : Bool). b && is_some (newest state.document.log)) editable) ∙ none
+
+stays_editable : (state new : State) → new ≡ state_undone state → is_editable new ≡ is_editable state
+stays_editable state new is =
+    ap is_editable is
+    ∙ by_test (λ (s : State). is_editable s ≡ is_editable state) state.settings.read_only state (with_document state (after_undo state.document)) (λ barred. refl) (λ editable. refl)
+
 pub steps_back : (state : State) → Restores state.document → StepsBack state
 steps_back state restores =
     let document = state.document in
     record {
       here = λ written is. (0, omega arith, is);
-      before = λ written new some is other.
-          subst (λ (s : State). ReachesBack document written ↔ ReachesBack s.document written) (sym is)
+      before = λ written new found is other.
+          let some = (undoes_parts state found).1 in
+          subst (λ (s : State). ReachesBack document written ↔ ReachesBack s.document written) (sym (undone_is state new found is))
           ((λ h. after_one document written h.0 restores some other h.1 h.2), (λ h. further document written restores some h));
-      fewer = λ new some is.
-          subst (λ (s : State). done_groups s.document.log < done_groups document.log) (sym is) (omega (arith, one_less document restores some, some_groups document.log some));
-      last = λ written none other h. other (at_last document written h.0 none h.1 h.2);
+      fewer = λ new found is.
+          let some = (undoes_parts state found).1 in
+          subst (λ (s : State). done_groups s.document.log < done_groups document.log) (sym (undone_is state new found is)) (omega (arith, one_less document restores some, some_groups document.log some));
+      last = λ written editable none other h. other (at_last document written h.0 (nothing_found state editable none) h.1 h.2);
+      editable = stays_editable state;
     }

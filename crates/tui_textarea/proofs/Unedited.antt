@@ -20,6 +20,7 @@ use Rattle.tui_textarea.specs.CallResults.{CallResult, PatternRejected}
 use Rattle.tui_textarea.specs.CallSplices.{splices_by, splices_of}
 use Rattle.tui_textarea.specs.Calls.{rejected_ranges, with_ranges_if}
 use Rattle.tui_textarea.specs.Drawing.{viewport_scrolled}
+use Rattle.tui_textarea.specs.Guards.{has_several_lines, made_single, single_line_set}
 use Rattle.tui_textarea.specs.Input.{IsAfterAction, asked_by, asked_without_shortcuts}
 use Rattle.tui_textarea.specs.Moves.{IsMovedWith, after_move_by, pushed}
 use Rattle.tui_textarea.specs.Outcomes.{IsAfterCall, after_pattern}
@@ -28,10 +29,10 @@ use Rattle.tui_textarea.specs.Selection.{selection_cancelled, selection_copied}
 use Rattle.tui_textarea.specs.State.{State}
 
 -- the two states have the same text
-abbrev SameText : State → State → Type 0
+abbrev pub SameText : State → State → Type 0
 SameText old new = new.document.text ≡ old.document.text
 
-abbrev text : State → List Symbol
+abbrev pub text : State → List Symbol
 text state = state.document.text
 
 moved : (old : State) (shift : Bool) (found : Option Place) → SameText old (after_move_by old shift found)
@@ -46,10 +47,18 @@ searched : (old : State) (found : Option Place) → SameText old (after_search o
 searched old None = refl
 searched old (Some place) = refl
 
-copied : (old : State) → SameText old (selection_copied old)
+pub copied : (old : State) → SameText old (selection_copied old)
 copied old = by_flag old (is_selected old.document)
   where
     by_flag : (old : State) (some : Bool) → SameText old (if some then record (selection_cancelled old) { yank = selected old.document } else selection_cancelled old)
+    by_flag old true = refl
+    by_flag old false = refl
+
+single_set : (old : State) (single_line : Bool) → SameText old (single_line_set old single_line)
+single_set old false = refl
+single_set old true = by_flag old (has_several_lines old)
+  where
+    by_flag : (old : State) (several : Bool) → SameText old (if several then old else made_single old)
     by_flag old true = refl
     by_flag old false = refl
 
@@ -92,5 +101,6 @@ unedited state (call.SetSearchText plain ignore_case whole_word) is = record { n
 unedited state (call.SearchForward at_cursor) is = record { no_splice = refl; text_stays = λ returned new after. ap text after ∙ searched state (next_match state at_cursor) }
 unedited state (call.SearchBack at_cursor) is = record { no_splice = refl; text_stays = λ returned new after. ap text after ∙ searched state (previous_match state at_cursor) }
 unedited state (call.TrySetAtomicRanges ranges) is = record { no_splice = refl; text_stays = λ returned new after. ap text after ∙ ranges_set (rejected_ranges state ranges.now) state ranges.now }
+unedited state (call.SetSingleLine single_line) is = record { no_splice = refl; text_stays = λ returned new after. ap text after ∙ single_set state single_line }
 unedited state (call.Render area) is = record { no_splice = refl; text_stays = λ returned new after. ap (λ (d : DocumentState). d.text) (drawn_document state new area after) }
 unedited state other is = record { no_splice = cc is; text_stays = λ returned new after. ap text after ∙ cc is }

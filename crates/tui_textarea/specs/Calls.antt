@@ -1,5 +1,5 @@
 -- What each call does: its result, the state after it, its splices, and where it may run out of memory.
-use Rattle.std.specs.Prelude.{◌≡◌, ◌≢◌, true, false, List, [], ◌∷◌, is_some, length, not, None, Some, String}
+use Rattle.std.specs.Prelude.{◌≡◌, ◌≢◌, ◌&&◌, true, false, List, [], ◌∷◌, if◌then◌else◌, is_some, length, not, None, Some, String}
 use Rattle.std.specs.Duration.{as_nanos}
 use Rattle.std.specs.Str.{chars}
 use Rattle.textarea_text.specs.Place.{Place}
@@ -24,6 +24,7 @@ use Rattle.textarea_document.specs.Splices.{after_splices, before_splices, break
 use Rattle.tui_textarea.specs.State.{State, with_change_log, with_changes_taken, with_document, with_other_lines}
 use Rattle.tui_textarea.specs.Splices.{ahead_splices, char_splices, clear_splices, line_end_splices, line_head_splices, selected_splices_or, str_splices, tab_splices, word_after_splices, word_before_splices}
 use Rattle.tui_textarea.specs.Edits.{inserts_tab, inserts_text, char_inserted, newline_inserted, tab_inserted, str_inserted}
+use Rattle.tui_textarea.specs.Guards.{admitted, barred_after, bars_break, bars_character, has_several_lines, is_barred, is_editable, removable_range, single_line_set}
 use Rattle.tui_textarea.specs.Grouping.{typing_ended, undo_group_begun, undo_group_ended}
 use Rattle.tui_textarea.specs.Removals.{break_before_removed, text_cleared, has_ahead, has_before, has_after, has_break_before, has_line_before, has_line_after, has_word_before}
 use Rattle.tui_textarea.specs.Removals.{has_word_after, line_end_removed, line_head_removed, removes_or, symbol_before_removed, symbol_after_removed, symbols_ahead_removed}
@@ -65,29 +66,29 @@ with_ranges_if (range ∷ rejected) state ranges = state
 -- the result of the call; of one that sets a pattern, if the pattern is accepted. The results of a
 -- measure, a hit test and an input are defined elsewhere
 abbrev pub result_of_call : State → Call → CallResult
-result_of_call state (call.InsertStr text) = Flag (inserts_text state (fragment_symbols (chars text.now)))
-result_of_call state (call.InsertPasted text) = Flag (inserts_text state (pasted_symbols (chars text.now)))
-result_of_call state call.IndentLines = Flag (shifts_lines state.document false)
-result_of_call state call.OutdentLines = Flag (shifts_lines state.document true)
-result_of_call state call.MoveLinesUp = Flag (has_line_above state.document)
-result_of_call state call.MoveLinesDown = Flag (has_line_below state.document)
-result_of_call state (call.ReplaceRange from to text) = Flag (replaces state.document.text from to (fragment_symbols (chars text.now)))
-result_of_call state (call.ReplaceMatch text) = Flag (is_some (match_at_cursor state))
-result_of_call state (call.ReplaceAll text) = reported.Number (length (replaceable state))
-result_of_call state call.InsertTab = Flag (inserts_tab state)
-result_of_call state (call.DeleteStr count) = Flag (removes_or state (has_ahead state count))
-result_of_call state call.DeleteNewline = Flag (removes_or state (has_break_before state))
-result_of_call state call.DeleteChar = Flag (removes_or state (has_before state))
-result_of_call state call.DeleteNextChar = Flag (removes_or state (has_after state))
-result_of_call state call.DeleteLineByEnd = Flag (removes_or state (has_line_after state))
-result_of_call state call.DeleteLineByHead = Flag (removes_or state (has_line_before state))
-result_of_call state call.DeleteWord = Flag (removes_or state (has_word_before state))
-result_of_call state call.DeleteNextWord = Flag (removes_or state (has_word_after state))
-result_of_call state call.Clear = Flag (has_symbols state.document.text)
+result_of_call state (call.InsertStr text) = Flag (is_editable state && inserts_text state (fragment_symbols (chars text.now)))
+result_of_call state (call.InsertPasted text) = Flag (is_editable state && inserts_text state (pasted_symbols (chars text.now)))
+result_of_call state call.IndentLines = Flag (is_editable state && shifts_lines state.document false)
+result_of_call state call.OutdentLines = Flag (is_editable state && shifts_lines state.document true)
+result_of_call state call.MoveLinesUp = Flag (is_editable state && has_line_above state.document)
+result_of_call state call.MoveLinesDown = Flag (is_editable state && has_line_below state.document)
+result_of_call state (call.ReplaceRange from to text) = Flag (is_editable state && replaces state.document.text from to (admitted state (fragment_symbols (chars text.now))))
+result_of_call state (call.ReplaceMatch text) = Flag (is_editable state && is_some (match_at_cursor state))
+result_of_call state (call.ReplaceAll text) = reported.Number (if state.settings.read_only then 0 else length (replaceable state))
+result_of_call state call.InsertTab = Flag (is_editable state && inserts_tab state)
+result_of_call state (call.DeleteStr count) = Flag (is_editable state && removes_or state (has_ahead state count))
+result_of_call state call.DeleteNewline = Flag (is_editable state && removes_or state (has_break_before state))
+result_of_call state call.DeleteChar = Flag (is_editable state && removes_or state (has_before state))
+result_of_call state call.DeleteNextChar = Flag (is_editable state && removes_or state (has_after state))
+result_of_call state call.DeleteLineByEnd = Flag (is_editable state && removes_or state (has_line_after state))
+result_of_call state call.DeleteLineByHead = Flag (is_editable state && removes_or state (has_line_before state))
+result_of_call state call.DeleteWord = Flag (is_editable state && removes_or state (has_word_before state))
+result_of_call state call.DeleteNextWord = Flag (is_editable state && removes_or state (has_word_after state))
+result_of_call state call.Clear = Flag (is_editable state && has_symbols state.document.text)
 result_of_call state call.Cut = Flag (is_selected state.document)
-result_of_call state call.Paste = Flag (has_symbols state.yank)
-result_of_call state call.Undo = Flag (is_some (newest state.document.log))
-result_of_call state call.Redo = Flag (is_some (next state.document.log))
+result_of_call state call.Paste = Flag (is_editable state && has_symbols state.yank)
+result_of_call state call.Undo = Flag (is_editable state && is_some (newest state.document.log))
+result_of_call state call.Redo = Flag (is_editable state && is_some (next state.document.log))
 result_of_call state call.TakeChanges = reported.Changes state.document.changes.made
 result_of_call state call.Text = Text (fragment_text state.document.text)
 result_of_call state (call.TextRange from to) = Text (fragment_text (stretch_symbols state.document.text from to))
@@ -95,7 +96,7 @@ result_of_call state call.YankText = Text (fragment_text state.yank)
 result_of_call state (call.TrySetAtomicRanges ranges) = ranges_result (rejected_ranges state ranges.now)
 result_of_call state (call.NormalizeCursorAroundAtomicRanges bias) = Flag (is_some (range_around state.document.ranges state.document.cursor))
 result_of_call state (call.AtomicRangeAtCursor direction) = Range (range_at_cursor state.document direction)
-result_of_call state (call.DeleteAtomicRangeAtCursor direction) = Range (range_at_cursor state.document direction)
+result_of_call state (call.DeleteAtomicRangeAtCursor direction) = Range (removable_range state direction)
 result_of_call state (call.SearchForward at_cursor) = Flag (is_some (next_match state at_cursor))
 result_of_call state (call.SearchBack at_cursor) = Flag (is_some (previous_match state at_cursor))
 result_of_call state call.MatchCount = reported.Number (match_count state)
@@ -121,6 +122,9 @@ result_of_call state call.HardTabIndent = Flag state.settings.hard_tab_indent
 result_of_call state call.MaxHistories = reported.Number state.document.log.maximum
 result_of_call state call.UndoCoalescing = Flag state.settings.undo_coalescing
 result_of_call state call.UndoGrouping = Flag state.settings.undo_grouping
+result_of_call state call.ReadOnly = Flag state.settings.read_only
+result_of_call state (call.SetSingleLine single_line) = Flag (not (single_line && has_several_lines state))
+result_of_call state call.SingleLine = Flag state.settings.single_line
 result_of_call state call.WrapMode = reported.WrapMode state.document.layout.settings.mode
 result_of_call state call.LineNumberStyle = reported.StyleIfVisible (number_style state)
 result_of_call state call.PlaceholderStyle = reported.StyleIfVisible (style_with_lines state.surround.placeholder.lines state.surround.placeholder.style)
@@ -134,165 +138,175 @@ abbrev pub with_lines : {Z : Type 0} → State → List (String Z) → Place →
 with_lines state lines cursor =
     with_other_lines state (lines_replaced state.document (lines_of lines) cursor)
 
--- the state after the call; after one that sets a pattern, if the pattern is accepted. The states
--- after moves, scrolls, inputs and drawings are defined elsewhere
-abbrev pub state_after : State → Call → State
-state_after state (call.InsertChar c) = char_inserted state c
-state_after state (call.InsertStr text) = str_inserted state (fragment_symbols (chars text.now))
-state_after state (call.InsertPasted text) = str_inserted state (pasted_symbols (chars text.now))
-state_after state call.InsertTab = tab_inserted state
-state_after state call.InsertNewline = newline_inserted state
-state_after state call.DuplicateLine = with_document state (lines_duplicated state.document state.time)
-state_after state call.IndentLines = with_document state (lines_indented state.document state.settings.hard_tab_indent state.time)
-state_after state call.OutdentLines = with_document state (lines_outdented state.document state.time)
-state_after state call.MoveLinesUp = with_document state (lines_moved_up state.document state.time)
-state_after state call.MoveLinesDown = with_document state (lines_moved_down state.document state.time)
-state_after state (call.ReplaceRange from to text) = with_range_replaced state from to (fragment_symbols (chars text.now))
-state_after state (call.ReplaceMatch text) = match_replaced state (fragment_symbols (chars text.now))
-state_after state (call.ReplaceAll text) = matches_replaced state (fragment_symbols (chars text.now))
-state_after state (call.DeleteStr count) = unselected_or state (symbols_ahead_removed state count)
-state_after state call.DeleteNewline = unselected_or state (break_before_removed state)
-state_after state call.DeleteChar = unselected_or state (symbol_before_removed state)
-state_after state call.DeleteNextChar = unselected_or state (symbol_after_removed state)
-state_after state call.DeleteLineByEnd = unselected_or state (line_end_removed state)
-state_after state call.DeleteLineByHead = unselected_or state (line_head_removed state)
-state_after state call.DeleteWord = unselected_or state (word_before_removed state)
-state_after state call.DeleteNextWord = unselected_or state (word_after_removed state)
-state_after state call.Clear = text_cleared state
-state_after state call.Cut = selection_cut state
-state_after state call.Copy = selection_copied state
-state_after state call.Paste = str_inserted state state.yank
-state_after state call.Undo = with_document state (after_undo state.document)
-state_after state call.Redo = with_document state (after_redo state.document)
-state_after state (call.SetChangeLog unit) = with_change_log state unit
-state_after state call.TakeChanges = with_changes_taken state
-state_after state (call.SetYankText text) = record state { yank = fragment_symbols (chars text.now) }
-state_after state call.YankText = state
-state_after state (call.TrySetAtomicRanges ranges) = with_ranges_if (rejected_ranges state ranges.now) state ranges.now
-state_after state (call.NormalizeCursorAroundAtomicRanges bias) = cursor_normalized state bias
-state_after state (call.AtomicRangeAtCursor direction) = state
-state_after state (call.DeleteAtomicRangeAtCursor direction) = atomic_range_removed state direction
-state_after state (call.SetLines lines cursor) = with_lines state lines.now cursor
-state_after state (call.SetSearchPattern text) = with_pattern state text.now
-state_after state (call.SetSearchText text ignore_case whole_word) = with_search_text state text.now ignore_case whole_word
-state_after state (call.SearchForward at_cursor) = after_search state (next_match state at_cursor)
-state_after state (call.SearchBack at_cursor) = after_search state (previous_match state at_cursor)
-state_after state (call.GoTo place) = gone_to state place
-state_after state call.StartSelection = selection_started state
-state_after state call.CancelSelection = selection_cancelled state
-state_after state call.SelectAll = all_selected state
-state_after state (call.SetTabLength columns) = with_tab_length state columns
-state_after state (call.SetWrapMode mode) = with_wrap_mode state mode
-state_after state (call.SetLineNumberStyle style) = with_line_numbers state style
-state_after state call.RemoveLineNumber = without_line_numbers state
-state_after state (call.SetBlock block) = with_surround state (record state.surround { block = Some (block_view block.now) })
-state_after state call.RemoveBlock = with_surround state (record state.surround { block = None })
-state_after state (call.SetPlaceholderText text) = with_surround state (with_placeholder_text state.surround text.now)
-state_after state (call.SetStyledPlaceholder text) = with_surround state (record state.surround { placeholder = text_view text.now })
-state_after state (call.SetPlaceholderStyle style) = with_surround state (with_placeholder_style state.surround style)
-state_after state (call.SetMinRows rows) = with_surround state (with_min_rows state.surround rows)
-state_after state (call.SetMaxRows rows) = with_surround state (with_max_rows state.surround rows)
-state_after state (call.SetHardTabIndent hard) = record state { settings = record state.settings { hard_tab_indent = hard } }
-state_after state (call.SetMaxHistories maximum) =
+-- the state after a call that no guard leaves out; after one that sets a pattern, if
+-- the pattern is accepted. The states after moves, scrolls, inputs and drawings are defined elsewhere
+abbrev pub unguarded_after : State → Call → State
+unguarded_after state (call.InsertChar c) = char_inserted state c
+unguarded_after state (call.InsertStr text) = str_inserted state (admitted state (fragment_symbols (chars text.now)))
+unguarded_after state (call.InsertPasted text) = str_inserted state (admitted state (pasted_symbols (chars text.now)))
+unguarded_after state call.InsertTab = tab_inserted state
+unguarded_after state call.InsertNewline = newline_inserted state
+unguarded_after state call.DuplicateLine = with_document state (lines_duplicated state.document state.time)
+unguarded_after state call.IndentLines = with_document state (lines_indented state.document state.settings.hard_tab_indent state.time)
+unguarded_after state call.OutdentLines = with_document state (lines_outdented state.document state.time)
+unguarded_after state call.MoveLinesUp = with_document state (lines_moved_up state.document state.time)
+unguarded_after state call.MoveLinesDown = with_document state (lines_moved_down state.document state.time)
+unguarded_after state (call.ReplaceRange from to text) = with_range_replaced state from to (admitted state (fragment_symbols (chars text.now)))
+unguarded_after state (call.ReplaceMatch text) = match_replaced state (admitted state (fragment_symbols (chars text.now)))
+unguarded_after state (call.ReplaceAll text) = matches_replaced state (admitted state (fragment_symbols (chars text.now)))
+unguarded_after state (call.DeleteStr count) = unselected_or state (symbols_ahead_removed state count)
+unguarded_after state call.DeleteNewline = unselected_or state (break_before_removed state)
+unguarded_after state call.DeleteChar = unselected_or state (symbol_before_removed state)
+unguarded_after state call.DeleteNextChar = unselected_or state (symbol_after_removed state)
+unguarded_after state call.DeleteLineByEnd = unselected_or state (line_end_removed state)
+unguarded_after state call.DeleteLineByHead = unselected_or state (line_head_removed state)
+unguarded_after state call.DeleteWord = unselected_or state (word_before_removed state)
+unguarded_after state call.DeleteNextWord = unselected_or state (word_after_removed state)
+unguarded_after state call.Clear = text_cleared state
+unguarded_after state call.Cut = selection_cut state
+unguarded_after state call.Copy = selection_copied state
+unguarded_after state call.Paste = str_inserted state (admitted state state.yank)
+unguarded_after state call.Undo = with_document state (after_undo state.document)
+unguarded_after state call.Redo = with_document state (after_redo state.document)
+unguarded_after state (call.SetChangeLog unit) = with_change_log state unit
+unguarded_after state call.TakeChanges = with_changes_taken state
+unguarded_after state (call.SetYankText text) = record state { yank = fragment_symbols (chars text.now) }
+unguarded_after state call.YankText = state
+unguarded_after state (call.TrySetAtomicRanges ranges) = with_ranges_if (rejected_ranges state ranges.now) state ranges.now
+unguarded_after state (call.NormalizeCursorAroundAtomicRanges bias) = cursor_normalized state bias
+unguarded_after state (call.AtomicRangeAtCursor direction) = state
+unguarded_after state (call.DeleteAtomicRangeAtCursor direction) = atomic_range_removed state direction
+unguarded_after state (call.SetLines lines cursor) = with_lines state lines.now cursor
+unguarded_after state (call.SetSearchPattern text) = with_pattern state text.now
+unguarded_after state (call.SetSearchText text ignore_case whole_word) = with_search_text state text.now ignore_case whole_word
+unguarded_after state (call.SearchForward at_cursor) = after_search state (next_match state at_cursor)
+unguarded_after state (call.SearchBack at_cursor) = after_search state (previous_match state at_cursor)
+unguarded_after state (call.GoTo place) = gone_to state place
+unguarded_after state call.StartSelection = selection_started state
+unguarded_after state call.CancelSelection = selection_cancelled state
+unguarded_after state call.SelectAll = all_selected state
+unguarded_after state (call.SetTabLength columns) = with_tab_length state columns
+unguarded_after state (call.SetWrapMode mode) = with_wrap_mode state mode
+unguarded_after state (call.SetLineNumberStyle style) = with_line_numbers state style
+unguarded_after state call.RemoveLineNumber = without_line_numbers state
+unguarded_after state (call.SetBlock block) = with_surround state (record state.surround { block = Some (block_view block.now) })
+unguarded_after state call.RemoveBlock = with_surround state (record state.surround { block = None })
+unguarded_after state (call.SetPlaceholderText text) = with_surround state (with_placeholder_text state.surround text.now)
+unguarded_after state (call.SetStyledPlaceholder text) = with_surround state (record state.surround { placeholder = text_view text.now })
+unguarded_after state (call.SetPlaceholderStyle style) = with_surround state (with_placeholder_style state.surround style)
+unguarded_after state (call.SetMinRows rows) = with_surround state (with_min_rows state.surround rows)
+unguarded_after state (call.SetMaxRows rows) = with_surround state (with_max_rows state.surround rows)
+unguarded_after state (call.SetHardTabIndent hard) = record state { settings = record state.settings { hard_tab_indent = hard } }
+unguarded_after state (call.SetMaxHistories maximum) =
     with_document state (record state.document { log = empty_log maximum })
-state_after state (call.SetUndoCoalescing joins) =
+unguarded_after state (call.SetUndoCoalescing joins) =
     record state { document = record state.document { log = run_ended state.document.log }; settings = record state.settings { undo_coalescing = joins } }
-state_after state (call.SetUndoGrouping groups) = record state { settings = record state.settings { undo_grouping = groups } }
-state_after state call.BeginUndoGroup = undo_group_begun state
-state_after state call.EndUndoGroup = undo_group_ended state
-state_after state call.EndRun = typing_ended state
-state_after state (call.SetNow time) = record state { time = as_nanos time }
-state_after state call.ClearAtomicRanges = ranges_cleared state
+unguarded_after state (call.SetUndoGrouping groups) = record state { settings = record state.settings { undo_grouping = groups } }
+unguarded_after state (call.SetReadOnly read_only) = record state { settings = record state.settings { read_only = read_only } }
+unguarded_after state (call.SetSingleLine single_line) = single_line_set state single_line
+unguarded_after state call.BeginUndoGroup = undo_group_begun state
+unguarded_after state call.EndUndoGroup = undo_group_ended state
+unguarded_after state call.EndRun = typing_ended state
+unguarded_after state (call.SetNow time) = record state { time = as_nanos time }
+unguarded_after state call.ClearAtomicRanges = ranges_cleared state
 -- Styles that are set: Written by tools/calls from crates/textarea_calls/calls.txt.
-state_after state (call.SetStyle style) = with_look_set state (record state.drawing.look { style = style })
-state_after state (call.SetCursorStyle style) = with_look_set state (record state.drawing.look { cursor_style = style })
-state_after state (call.SetCursorLineStyle style) = with_look_set state (record state.drawing.look { cursor_line_style = style })
-state_after state (call.SetCursorLineNumberStyle style) = with_look_set state (record state.drawing.look { cursor_line_number_style = style })
-state_after state (call.SetSelectionStyle style) = with_look_set state (record state.drawing.look { selection_style = style })
-state_after state (call.SetSearchStyle style) = with_look_set state (record state.drawing.look { search_style = style })
+unguarded_after state (call.SetStyle style) = with_look_set state (record state.drawing.look { style = style })
+unguarded_after state (call.SetCursorStyle style) = with_look_set state (record state.drawing.look { cursor_style = style })
+unguarded_after state (call.SetCursorLineStyle style) = with_look_set state (record state.drawing.look { cursor_line_style = style })
+unguarded_after state (call.SetCursorLineNumberStyle style) = with_look_set state (record state.drawing.look { cursor_line_number_style = style })
+unguarded_after state (call.SetSelectionStyle style) = with_look_set state (record state.drawing.look { selection_style = style })
+unguarded_after state (call.SetSearchStyle style) = with_look_set state (record state.drawing.look { search_style = style })
 -- End of what tools/calls writes.
-state_after state (call.SetMaskChar mask) = with_look_set state (record state.drawing.look { mask = Some mask })
-state_after state call.ClearMaskChar = with_look_set state (record state.drawing.look { mask = None })
-state_after state (call.SetCursorRenderMode mode) = with_look_set state (record state.drawing.look { cursor_render_mode = mode })
-state_after state (call.SetAlignment alignment) = with_alignment state alignment
-state_after state (call.CustomHighlight range style priority) = highlighted state range style priority
-state_after state call.ClearCustomHighlight = unhighlighted state
-state_after state call = state
+unguarded_after state (call.SetMaskChar mask) = with_look_set state (record state.drawing.look { mask = Some mask })
+unguarded_after state call.ClearMaskChar = with_look_set state (record state.drawing.look { mask = None })
+unguarded_after state (call.SetCursorRenderMode mode) = with_look_set state (record state.drawing.look { cursor_render_mode = mode })
+unguarded_after state (call.SetAlignment alignment) = with_alignment state alignment
+unguarded_after state (call.CustomHighlight range style priority) = highlighted state range style priority
+unguarded_after state call.ClearCustomHighlight = unhighlighted state
+unguarded_after state call = state
 
--- The splices of the call in this state, one after another. An insertion over selected text has
--- two, first the removal of that text; a replacement has at most two, and one of several matches at
--- most two for each of them; indenting and outdenting have one for each line, and lines that move
--- have two; any other edit, undo or redo has one, or those of a group; a call that changes nothing in
--- the text has none. The call that sets lines replaces the text, and has none. Those of inputs are
--- defined elsewhere.
+-- the state after the call
+abbrev pub state_after : State → Call → State
+state_after state made = if is_barred state made then barred_after state made else unguarded_after state made
+
+-- The splices of the call in this state, one after another, if no guard leaves it out. An
+-- insertion over selected text has two, first the removal of that text; a replacement has at most
+-- two, and one of several matches at most two for each of them; indenting and outdenting have one for
+-- each line, and lines that move have two; any other edit, undo or redo has one, or those of a group;
+-- a call that changes nothing in the text has none. The call that sets lines replaces the text, and
+-- has none. Those of inputs are defined elsewhere.
+abbrev pub unguarded_splices : State → Call → List Splice
+unguarded_splices state (call.InsertChar c) = char_splices state c
+unguarded_splices state (call.InsertStr text) = str_splices state (admitted state (fragment_symbols (chars text.now)))
+unguarded_splices state (call.InsertPasted text) = str_splices state (admitted state (pasted_symbols (chars text.now)))
+unguarded_splices state call.InsertTab = tab_splices state
+unguarded_splices state call.InsertNewline = str_splices state (Break ∷ [])
+unguarded_splices state call.Paste = str_splices state (admitted state state.yank)
+unguarded_splices state call.DuplicateLine = selection_duplication state.document ∷ []
+unguarded_splices state call.IndentLines = indent_splices state.document state.settings.hard_tab_indent state.time
+unguarded_splices state call.OutdentLines = outdent_splices state.document state.time
+unguarded_splices state call.MoveLinesUp = move_up_splices state.document state.time
+unguarded_splices state call.MoveLinesDown = move_down_splices state.document state.time
+unguarded_splices state (call.ReplaceRange from to text) = range_splices state.document from to (admitted state (fragment_symbols (chars text.now))) state.time
+unguarded_splices state (call.ReplaceMatch text) = match_splices state (admitted state (fragment_symbols (chars text.now)))
+unguarded_splices state (call.ReplaceAll text) = matches_splices state (admitted state (fragment_symbols (chars text.now)))
+unguarded_splices state (call.DeleteStr count) = selected_splices_or state.document (ahead_splices state.document count)
+unguarded_splices state call.DeleteNewline = selected_splices_or state.document (break_splices state.document)
+unguarded_splices state call.DeleteChar = selected_splices_or state.document (before_splices state.document)
+unguarded_splices state call.DeleteNextChar = selected_splices_or state.document (after_splices state.document)
+unguarded_splices state call.DeleteLineByEnd = selected_splices_or state.document (line_end_splices state.document)
+unguarded_splices state call.DeleteLineByHead = selected_splices_or state.document (line_head_splices state.document)
+unguarded_splices state call.DeleteWord = selected_splices_or state.document (word_before_splices state.document)
+unguarded_splices state call.DeleteNextWord = selected_splices_or state.document (word_after_splices state.document)
+unguarded_splices state call.Clear = clear_splices state.document
+unguarded_splices state call.Cut = selected_splices state.document
+unguarded_splices state call.Undo = undo_splices state.document
+unguarded_splices state call.Redo = redo_splices state.document
+unguarded_splices state (call.DeleteAtomicRangeAtCursor direction) = cursor_range_splices state.document direction
+unguarded_splices state call = []
+
+-- the splices of the call: none, if a guard leaves it out
 abbrev pub call_splices : State → Call → List Splice
-call_splices state (call.InsertChar c) = char_splices state c
-call_splices state (call.InsertStr text) = str_splices state (fragment_symbols (chars text.now))
-call_splices state (call.InsertPasted text) = str_splices state (pasted_symbols (chars text.now))
-call_splices state call.InsertTab = tab_splices state
-call_splices state call.InsertNewline = str_splices state (Break ∷ [])
-call_splices state call.Paste = str_splices state state.yank
-call_splices state call.DuplicateLine = selection_duplication state.document ∷ []
-call_splices state call.IndentLines = indent_splices state.document state.settings.hard_tab_indent state.time
-call_splices state call.OutdentLines = outdent_splices state.document state.time
-call_splices state call.MoveLinesUp = move_up_splices state.document state.time
-call_splices state call.MoveLinesDown = move_down_splices state.document state.time
-call_splices state (call.ReplaceRange from to text) = range_splices state.document from to (fragment_symbols (chars text.now)) state.time
-call_splices state (call.ReplaceMatch text) = match_splices state (fragment_symbols (chars text.now))
-call_splices state (call.ReplaceAll text) = matches_splices state (fragment_symbols (chars text.now))
-call_splices state (call.DeleteStr count) = selected_splices_or state.document (ahead_splices state.document count)
-call_splices state call.DeleteNewline = selected_splices_or state.document (break_splices state.document)
-call_splices state call.DeleteChar = selected_splices_or state.document (before_splices state.document)
-call_splices state call.DeleteNextChar = selected_splices_or state.document (after_splices state.document)
-call_splices state call.DeleteLineByEnd = selected_splices_or state.document (line_end_splices state.document)
-call_splices state call.DeleteLineByHead = selected_splices_or state.document (line_head_splices state.document)
-call_splices state call.DeleteWord = selected_splices_or state.document (word_before_splices state.document)
-call_splices state call.DeleteNextWord = selected_splices_or state.document (word_after_splices state.document)
-call_splices state call.Clear = clear_splices state.document
-call_splices state call.Cut = selected_splices state.document
-call_splices state call.Undo = undo_splices state.document
-call_splices state call.Redo = redo_splices state.document
-call_splices state (call.DeleteAtomicRangeAtCursor direction) = cursor_range_splices state.document direction
-call_splices state call = []
+call_splices state made = if is_barred state made then [] else unguarded_splices state made
 
 -- the call may need memory: not if it has nothing to do, if a setting keeps the layout, if a
 -- measure reads the cached rows, or for a hit test with left alignment; and never a move, a scroll,
 -- any other setting or a call that reads one, a call that begins, drops or completes a selection,
 -- one that clears or looks up ranges, or one that clears highlights
 abbrev pub NeedsMemory : State → Call → Type 0
-NeedsMemory state (call.InsertChar c) = Unit {0}
-NeedsMemory state (call.InsertStr text) = inserts_text state (fragment_symbols (chars text.now)) ≢ false
-NeedsMemory state (call.InsertPasted text) = inserts_text state (pasted_symbols (chars text.now)) ≢ false
-NeedsMemory state call.InsertTab = inserts_tab state ≢ false
-NeedsMemory state call.InsertNewline = Unit {0}
-NeedsMemory state call.DuplicateLine = Unit {0}
-NeedsMemory state call.IndentLines = Unit {0}
-NeedsMemory state call.OutdentLines = Unit {0}
-NeedsMemory state call.MoveLinesUp = has_line_above state.document ≢ false
-NeedsMemory state call.MoveLinesDown = has_line_below state.document ≢ false
-NeedsMemory state (call.ReplaceRange from to text) = Unit {0}
-NeedsMemory state (call.ReplaceMatch text) = state.pattern ≢ None
-NeedsMemory state (call.ReplaceAll text) = state.pattern ≢ None
-NeedsMemory state (call.DeleteStr count) = removes_or state (has_ahead state count) ≢ false
-NeedsMemory state call.DeleteNewline = removes_or state (has_break_before state) ≢ false
-NeedsMemory state call.DeleteChar = removes_or state (has_before state) ≢ false
-NeedsMemory state call.DeleteNextChar = removes_or state (has_after state) ≢ false
-NeedsMemory state call.DeleteLineByEnd = removes_or state (has_line_after state) ≢ false
-NeedsMemory state call.DeleteLineByHead = removes_or state (has_line_before state) ≢ false
-NeedsMemory state call.DeleteWord = removes_or state (has_word_before state) ≢ false
-NeedsMemory state call.DeleteNextWord = removes_or state (has_word_after state) ≢ false
-NeedsMemory state call.Clear = has_symbols state.document.text ≢ false
+NeedsMemory state (call.InsertChar c) = bars_character state c ≢ true
+NeedsMemory state (call.InsertStr text) = (is_editable state && inserts_text state (fragment_symbols (chars text.now))) ≢ false
+NeedsMemory state (call.InsertPasted text) = (is_editable state && inserts_text state (pasted_symbols (chars text.now))) ≢ false
+NeedsMemory state call.InsertTab = (is_editable state && inserts_tab state) ≢ false
+NeedsMemory state call.InsertNewline = bars_break state ≢ true
+NeedsMemory state call.DuplicateLine = bars_break state ≢ true
+NeedsMemory state call.IndentLines = is_editable state ≢ false
+NeedsMemory state call.OutdentLines = is_editable state ≢ false
+NeedsMemory state call.MoveLinesUp = (is_editable state && has_line_above state.document) ≢ false
+NeedsMemory state call.MoveLinesDown = (is_editable state && has_line_below state.document) ≢ false
+NeedsMemory state (call.ReplaceRange from to text) = is_editable state ≢ false
+NeedsMemory state (call.ReplaceMatch text) = (state.pattern ≢ None) × (is_editable state ≢ false)
+NeedsMemory state (call.ReplaceAll text) = (state.pattern ≢ None) × (is_editable state ≢ false)
+NeedsMemory state (call.DeleteStr count) = (is_editable state && removes_or state (has_ahead state count)) ≢ false
+NeedsMemory state call.DeleteNewline = (is_editable state && removes_or state (has_break_before state)) ≢ false
+NeedsMemory state call.DeleteChar = (is_editable state && removes_or state (has_before state)) ≢ false
+NeedsMemory state call.DeleteNextChar = (is_editable state && removes_or state (has_after state)) ≢ false
+NeedsMemory state call.DeleteLineByEnd = (is_editable state && removes_or state (has_line_after state)) ≢ false
+NeedsMemory state call.DeleteLineByHead = (is_editable state && removes_or state (has_line_before state)) ≢ false
+NeedsMemory state call.DeleteWord = (is_editable state && removes_or state (has_word_before state)) ≢ false
+NeedsMemory state call.DeleteNextWord = (is_editable state && removes_or state (has_word_after state)) ≢ false
+NeedsMemory state call.Clear = (is_editable state && has_symbols state.document.text) ≢ false
 NeedsMemory state call.Cut = is_selected state.document ≢ false
 NeedsMemory state call.Copy = is_selected state.document ≢ false
-NeedsMemory state call.Paste = inserts_text state state.yank ≢ false
-NeedsMemory state call.Undo = newest state.document.log ≢ None
-NeedsMemory state call.Redo = next state.document.log ≢ None
+NeedsMemory state call.Paste = (is_editable state && inserts_text state state.yank) ≢ false
+NeedsMemory state call.Undo = (is_editable state && is_some (newest state.document.log)) ≢ false
+NeedsMemory state call.Redo = (is_editable state && is_some (next state.document.log)) ≢ false
 NeedsMemory state (call.SetYankText text) = Unit {0}
 NeedsMemory state call.Text = Unit {0}
 NeedsMemory state call.YankText = Unit {0}
 NeedsMemory state (call.TextRange from to) = Unit {0}
 NeedsMemory state (call.TrySetAtomicRanges ranges) = Unit {0}
-NeedsMemory state (call.DeleteAtomicRangeAtCursor direction) = range_at_cursor state.document direction ≢ None
+NeedsMemory state (call.DeleteAtomicRangeAtCursor direction) = removable_range state direction ≢ None
 NeedsMemory state (call.SetLines lines cursor) = Unit {0}
 NeedsMemory state (call.SetSearchPattern text) = IsNewPattern state text.now
 NeedsMemory state (call.SetSearchText text ignore_case whole_word) = text.now ≢ []

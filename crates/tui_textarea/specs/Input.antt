@@ -1,6 +1,6 @@
 -- The states after inputs. Each input has an action, by one of the two key tables. The action's
 -- result, the state after it, and where it may run out of memory, are those of its call.
-use Rattle.std.specs.Prelude.{◌≡◌, Bool, false, Option, None, Some}
+use Rattle.std.specs.Prelude.{◌≡◌, ◌&&◌, not, Bool, false, Option, None, Some}
 use Rattle.textarea_data.specs.declared.input.Input.{Input}
 use Rattle.textarea_calls.specs.FlagRule as flag_rules
 use Rattle.textarea_calls.specs.FlagRule.{result_flag}
@@ -10,7 +10,9 @@ use Rattle.textarea_calls.specs.declared.action.Action.{Action}
 use Rattle.textarea_calls.specs.declared.action.Action.TheVariants as action
 use Rattle.textarea_calls.specs.declared.call.Call.{Call}
 use Rattle.textarea_calls.specs.declared.call.Call.TheVariants as call
+use Rattle.textarea_document.specs.Selection.{is_selected}
 use Rattle.tui_textarea.specs.Calls.{StateOutOfMemory, NeedsMemory, result_of_call, state_after}
+use Rattle.tui_textarea.specs.Guards.{bars_break, bars_character, is_editable}
 use Rattle.tui_textarea.specs.Moves.{IsMovedWith, IsScrolled, IsScrolledWith}
 use Rattle.tui_textarea.specs.CallResults.{CallResult, Flag}
 use Rattle.tui_textarea.specs.State.{State}
@@ -50,9 +52,13 @@ abbrev pub call_flag : State → Option Call → Bool
 call_flag state None = false
 call_flag state (Some made) = flag_of (result_of_call state made)
 
--- the result of an input with this action: true for a character or a line break; false for a copy,
--- a move, a scroll or no action; otherwise the result of the call
+-- the result of an input with this action: true for a character or a line break, and for a cut whether
+-- a text is selected, but false for these where a guard leaves them out; false for a copy, a move, a
+-- scroll or no action; otherwise the result of the call
 abbrev pub action_flag : State → Action → Bool
+action_flag state (action.InsertChar c) = not (bars_character state c)
+action_flag state action.InsertNewline = not (bars_break state)
+action_flag state action.Cut = is_editable state && is_selected state.document
 action_flag state asked = result_flag (flag_rules.flag_rule_of asked) (call_flag state (call_of_action asked))
 
 -- the state after the call, if there is one

@@ -1,5 +1,5 @@
 -- How the atomic ranges move with the text over calls, and where those after a run come from.
-use Rattle.std.specs.Prelude.{◌≡◌, ◌⊎◌, false, List, [], ◌∷◌, ◌++◌, length, map, take, All, Some}
+use Rattle.std.specs.Prelude.{◌≡◌, ◌⊎◌, Bool, true, false, List, [], ◌∷◌, ◌++◌, length, map, take, All, Some}
 use Rattle.textarea_text.specs.Place.{end}
 use Rattle.textarea_text.specs.Splice.{Splice}
 use Rattle.textarea_document.specs.RangesOverSplices.{AllStemFrom, IsCarriedTo, RangesFollowSplices, RangesStayWhole}
@@ -14,6 +14,8 @@ use Rattle.textarea_screen.specs.declared.screen.buffer.Buffer.{Buffer}
 use Rattle.textarea_calls.specs.declared.action.Action.{Action}
 use Rattle.textarea_calls.specs.declared.action.Action.TheVariants as action
 use Rattle.tui_textarea.specs.RangesOverActions.{RangesFollowAction}
+use Rattle.textarea_text.specs.Text.{lines_of}
+use Rattle.tui_textarea.specs.Guards.{bars_lines}
 use Rattle.tui_textarea.specs.Input.{asked_by, asked_without_shortcuts}
 use Rattle.tui_textarea.specs.State.{State}
 use Rattle.tui_textarea.specs.Run.{CallLeads, Leads}
@@ -34,15 +36,21 @@ pub record HoldsRanges (old : State) (ranges_set : List AtomicRange) (new : Stat
   pub text : new.document.text ≡ old.document.text
   pub ranges : new.document.ranges ≡ in_order ranges_set
 
+-- no range is left, or the text and its ranges stay where the lines are left out
+abbrev pub NoRangeUnless : Bool → State → State → Type 0
+NoRangeUnless true old new = RangesStayWhole old.document [] new.document
+NoRangeUnless false old new = HoldsNoRange new
+
 -- The call's splices lead from the old text to the new one, none if nothing is edited, and the
--- ranges move with the text; only the splices of undo and redo may split a range. New lines and the
--- call that clears leave no range, and ranges that are set replace the old ones.
+-- ranges move with the text; only the splices of undo and redo may split a range. New lines, unless
+-- they are left out, and the call that clears leave no range, and ranges that are set replace the old
+-- ones.
 abbrev pub RangesFollowCall : State → Call → CallResult → State → Type 0
 RangesFollowCall old Undo returned new = RangesFollowSplices old.document (splices_of old Undo) new.document
 RangesFollowCall old Redo returned new = RangesFollowSplices old.document (splices_of old Redo) new.document
 RangesFollowCall old (Input input) returned new = RangesFollowAction (asked_by input.now) old.document (splices_of old (Input input)) new.document
 RangesFollowCall old (InputWithoutShortcuts input) returned new = RangesFollowAction (asked_without_shortcuts input.now) old.document (splices_of old (InputWithoutShortcuts input)) new.document
-RangesFollowCall old (SetLines lines cursor) returned new = HoldsNoRange new
+RangesFollowCall old (SetLines lines cursor) returned new = NoRangeUnless (bars_lines old (lines_of lines.now)) old new
 RangesFollowCall old ClearAtomicRanges returned new = HoldsNoRange new
 RangesFollowCall old (TrySetAtomicRanges ranges) Done new = HoldsRanges old ranges.now new
 RangesFollowCall old call returned new = RangesStayWhole old.document (splices_of old call) new.document
@@ -83,7 +91,8 @@ pub record RangesAfterSplices (first : DocumentState) (splices : List CallSplice
 
 -- ---- a run
 
--- the call replaces the ranges: it sets some that are accepted, or clears them, or sets lines
+-- the call replaces the ranges: it sets some that are accepted, or clears them, or sets lines, even if
+-- they are left out
 abbrev pub SetsRanges : Call → CallResult → Type 0
 SetsRanges (TrySetAtomicRanges ranges) Done = Unit {0}
 SetsRanges ClearAtomicRanges returned = Unit {0}

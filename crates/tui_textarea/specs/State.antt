@@ -24,9 +24,10 @@ pub record State : Type 0 where
   pub surround : SurroundState
   pub drawing : DrawingState
 
--- the initial settings: tabs as spaces, typed edits do not join, and no edits are grouped
+-- the initial settings: tabs as spaces, typed edits do not join, no edits are grouped, and the text
+-- can be edited, and have several lines
 abbrev pub default_settings : Settings
-default_settings = record { hard_tab_indent = false; undo_coalescing = false; undo_grouping = false }
+default_settings = record { hard_tab_indent = false; undo_coalescing = false; undo_grouping = false; read_only = false; single_line = false }
 
 -- the initial layout: one visual row per line, tab stops at each fourth column, no line numbers, no
 -- area drawn yet

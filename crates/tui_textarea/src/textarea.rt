@@ -4,6 +4,7 @@ mod changes;
 mod constructors;
 mod edits;
 mod grouping;
+mod guards;
 mod indenting;
 mod input;
 pub(crate) mod laws;
@@ -23,10 +24,10 @@ pub mod settings;
 mod styles;
 mod surround;
 
-ghost use Rattle.std.specs.Prelude.{◌≡◌, ◌<◌, ◌≤◌, ◌↔◌, length, OnErr, OnOk, IfOk, IsTrue, [], string_bytes, vec_len};
+ghost use Rattle.std.specs.Prelude.{◌≡◌, ◌<◌, ◌≤◌, ◌↔◌, length, OnErr, OnOk, IfOk, IsOk, true, IsTrue, [], string_bytes, vec_len};
 ghost use Rattle.std.specs.Arc.{arc_value};
 ghost use Rattle.std.specs.Str.{chars};
-ghost use Rattle.tui_textarea.specs.Prelude.{fragment_text, size_limit, lines, lines_of, text_of, IsPlace, size_of, changes_taken, lines_replaced, new_state, with_other_lines};
+ghost use Rattle.tui_textarea.specs.Prelude.{fragment_text, size_limit, lines, lines_of, text_of, IsPlace, size_of, changes_taken, new_state, other_lines_set, bars_lines};
 
 use crate::drawing::Drawing;
 use crate::textarea::settings::Settings;
@@ -167,7 +168,8 @@ impl<'a> TextArea<'a> {
     /// `cursor`. Forgets all edits, the selection, the atomic ranges and the custom highlights, and
     /// resets the viewport's numbers to 0. Settings, search pattern, yanked text, the last area and
     /// the caret stay. A line feed inside a line stays a character of that line. A log of changes gets
-    /// a change of the whole text.
+    /// a change of the whole text. A text area of a single line takes no more than one: several change
+    /// nothing.
     pub fn set_lines(
         &mut self,
         lines: Vec<String>,
@@ -175,10 +177,13 @@ impl<'a> TextArea<'a> {
     ) -> Result<(), AllocError>
         requires some { 0 < vec_len lines }
         ensures ok { OnOk result
-            (self.new ≡ with_other_lines self.old
-            (lines_replaced self.old.document (lines_of lines.items) cursor)) }
+            (self.new ≡ other_lines_set self.old (lines_of lines.items) cursor) }
         ensures err { OnErr result (self.new ≡ self.old) }
+        ensures nothing { bars_lines self.old (lines_of lines.items) ≡ true → IsOk result }
     {
+        if self.bars_lines(lines.as_slice()) {
+            return Ok(());
+        }
         self.document.set_lines(lines, cursor)?;
         self.drawing.forget_lines();
         Ok(())

@@ -48,6 +48,8 @@ pub fn call(area: &mut TextArea, name: &str, words: &str) -> Option<&'static str
         "search_back" => flag(area.search_back(words.parse().ok()?)),
         "set_tab_length" => done(area.set_tab_length(words.parse().ok()?)),
         "set_hard_tab_indent" => done(area.set_hard_tab_indent(words.parse().ok()?)),
+        "set_read_only" => done(area.set_read_only(words.parse().ok()?)),
+        "set_single_line" => flag(area.set_single_line(words.parse().ok()?)),
         "clear_mask_char" => done(area.clear_mask_char()),
         _ => return None,
     };

@@ -606,6 +606,44 @@ impl TextArea<'_> {
             .is(|h| unsafe { sys::ta_set_hard_tab_indent(h, hard) });
     }
 
+    /// Sets whether the text area is read only. Then no call but `set_lines` changes the text:
+    /// every other call that edits, and an undo and a redo, changes nothing, neither what is yanked
+    /// nor the selection, and returns false, 0 or nothing. But `cut` does what `copy` does, and
+    /// returns whether a text was selected. Off at first.
+    ///
+    /// ```
+    /// use tui_textarea::TextArea;
+    ///
+    /// let mut area = TextArea::from(["one"]);
+    /// area.set_read_only(true);
+    /// area.insert_char('x'); // inserts nothing
+    /// assert!(!area.delete_next_char());
+    /// assert_eq!(area.lines(), ["one"]);
+    /// ```
+    pub fn set_read_only(&mut self, read_only: bool) {
+        self.core
+            .is(|h| unsafe { sys::ta_set_read_only(h, read_only) });
+    }
+
+    /// Sets whether the text is kept in a single line, and returns whether it could be set: a text
+    /// of several lines can't be. Then a line break that is typed, and `duplicate_line`, do
+    /// nothing, breaks of a text that is inserted or pasted become spaces, and `set_lines` of
+    /// several lines does nothing. Setting it forgets all edits. Off at first.
+    ///
+    /// ```
+    /// use tui_textarea::TextArea;
+    ///
+    /// let mut area = TextArea::from(["one"]);
+    /// assert!(area.set_single_line(true));
+    /// area.insert_newline(); // breaks no line
+    /// area.insert_str("a\nb");
+    /// assert_eq!(area.lines(), ["a bone"]);
+    /// ```
+    pub fn set_single_line(&mut self, single_line: bool) -> bool {
+        self.core
+            .is(|h| unsafe { sys::ta_set_single_line(h, single_line) })
+    }
+
     /// Hides the line numbers.
     ///
     /// ```
@@ -831,6 +869,30 @@ impl TextArea<'_> {
     /// ```
     pub fn undo_grouping(&self) -> bool {
         self.core.is(|h| unsafe { sys::ta_undo_grouping(h) })
+    }
+
+    /// Returns whether the text area is read only.
+    ///
+    /// ```
+    /// use tui_textarea::TextArea;
+    ///
+    /// let area = TextArea::from(["one"]);
+    /// assert!(!area.read_only());
+    /// ```
+    pub fn read_only(&self) -> bool {
+        self.core.is(|h| unsafe { sys::ta_read_only(h) })
+    }
+
+    /// Returns whether the text is kept in a single line.
+    ///
+    /// ```
+    /// use tui_textarea::TextArea;
+    ///
+    /// let area = TextArea::from(["one"]);
+    /// assert!(!area.single_line());
+    /// ```
+    pub fn single_line(&self) -> bool {
+        self.core.is(|h| unsafe { sys::ta_single_line(h) })
     }
 
     /// Returns the distance of tab stops, in columns.

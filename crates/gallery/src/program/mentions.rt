@@ -19,7 +19,8 @@ pub fn name_of(turn: usize) -> &'static str
     }
 }
 
-/// Inserts a name at the cursor as a mention. All mentions stay whole.
+/// Inserts a name at the cursor as a mention, unless the text area is read only. All mentions stay
+/// whole.
 pub fn mention(
     area: &mut TextArea<'_>,
     alloc: Global,
@@ -31,7 +32,10 @@ pub fn mention(
     is_sound(area);
     ranges_follow_each_call();
     splices_split_no_range();
-    area.insert_str(name)?;
+    let inserted = area.insert_str(name)?;
+    if !inserted {
+        return Ok(Ok(()));
+    }
     let (row, end_col) = area.cursor();
     // A name has a byte for each character.
     let start_col = end_col.saturating_sub(name.len());

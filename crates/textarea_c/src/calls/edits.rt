@@ -1,9 +1,11 @@
 //! Insertions. Each first removes the selected text, as its own edit, and then moves a cursor that
 //! is strictly inside an atomic range to the range's end.
+ghost use Rattle.std.specs.Prelude.{◌&&◌, if◌then◌else◌};
 ghost use Rattle.std.specs.Str.{chars};
 ghost use Rattle.textarea_document.specs.Edits.{has_symbols};
 ghost use Rattle.textarea_text.specs.Fragment.{fragment_symbols, pasted_symbols};
 ghost use Rattle.tui_textarea.specs.Edits.{inserts_tab, inserts_text, newline_inserted, str_inserted, tab_inserted};
+ghost use Rattle.tui_textarea.specs.Guards.{admitted, bars_break, is_editable, unless_read_only};
 ghost use Rattle.textarea_c.specs.Calls.{Calls, Given, Inserts, InsertsCharacter, TriesToInsert};
 ghost use Rattle.textarea_c_data.specs.Inputs.{character_of_number};
 ghost use Rattle.textarea_c_data.specs.Texts.{text_in};
@@ -44,7 +46,7 @@ fn insert_character(editor: &mut Editor, c: char) -> u32
 #[unsafe(no_mangle)]
 pub extern "C" fn ta_insert_newline(handle: &mut Handle, alloc: Global) -> u32
     ensures { Calls handle.old.stored.content result handle.new.stored.content
-        (λ a b. Inserts (newline_inserted a.area) result a b) }
+        (λ a b. Inserts (if bars_break a.area then a.area else newline_inserted a.area) result a b) }
 {
     on!(handle, alloc, editor => done(editor.area.insert_newline()))
 }
@@ -58,9 +60,10 @@ pub extern "C" fn ta_insert_newline(handle: &mut Handle, alloc: Global) -> u32
 pub extern "C" fn ta_insert_str(handle: &mut Handle, alloc: Global, text: &[u8]) -> u32
     ensures { Calls handle.old.stored.content result handle.new.stored.content
         (λ a b. Given (text_in text.now) (λ t. TriesToInsert
-        (inserts_text a.area (fragment_symbols (chars t)))
-        (inserts_text a.area (fragment_symbols (chars t)))
-        (str_inserted a.area (fragment_symbols (chars t)))) result a b) }
+        (is_editable a.area && inserts_text a.area (fragment_symbols (chars t)))
+        (is_editable a.area && inserts_text a.area (fragment_symbols (chars t)))
+        (unless_read_only a.area (str_inserted a.area
+        (admitted a.area (fragment_symbols (chars t)))))) result a b) }
 {
     on!(handle, alloc, editor => match text_of(text) {
         Some(text) => flag(editor.area.insert_str(text)),
@@ -77,9 +80,10 @@ pub extern "C" fn ta_insert_str(handle: &mut Handle, alloc: Global, text: &[u8])
 pub extern "C" fn ta_insert_pasted(handle: &mut Handle, alloc: Global, text: &[u8]) -> u32
     ensures { Calls handle.old.stored.content result handle.new.stored.content
         (λ a b. Given (text_in text.now) (λ t. TriesToInsert
-        (inserts_text a.area (pasted_symbols (chars t)))
-        (inserts_text a.area (pasted_symbols (chars t)))
-        (str_inserted a.area (pasted_symbols (chars t)))) result a b) }
+        (is_editable a.area && inserts_text a.area (pasted_symbols (chars t)))
+        (is_editable a.area && inserts_text a.area (pasted_symbols (chars t)))
+        (unless_read_only a.area (str_inserted a.area
+        (admitted a.area (pasted_symbols (chars t)))))) result a b) }
 {
     on!(handle, alloc, editor => match text_of(text) {
         Some(text) => flag(editor.area.insert_pasted(text)),
@@ -96,8 +100,9 @@ pub extern "C" fn ta_insert_pasted(handle: &mut Handle, alloc: Global, text: &[u
 #[unsafe(no_mangle)]
 pub extern "C" fn ta_insert_tab(handle: &mut Handle, alloc: Global) -> u32
     ensures { Calls handle.old.stored.content result handle.new.stored.content
-        (λ a b. TriesToInsert (inserts_tab a.area) (inserts_tab a.area) (tab_inserted a.area)
-        result a b) }
+        (λ a b. TriesToInsert (is_editable a.area && inserts_tab a.area)
+        (is_editable a.area && inserts_tab a.area)
+        (unless_read_only a.area (tab_inserted a.area)) result a b) }
 {
     on!(handle, alloc, editor => flag(editor.area.insert_tab()))
 }
@@ -109,8 +114,9 @@ pub extern "C" fn ta_insert_tab(handle: &mut Handle, alloc: Global) -> u32
 #[unsafe(no_mangle)]
 pub extern "C" fn ta_paste(handle: &mut Handle, alloc: Global) -> u32
     ensures { Calls handle.old.stored.content result handle.new.stored.content
-        (λ a b. TriesToInsert (has_symbols a.area.yank) (inserts_text a.area a.area.yank)
-        (str_inserted a.area a.area.yank) result a b) }
+        (λ a b. TriesToInsert (is_editable a.area && has_symbols a.area.yank)
+        (is_editable a.area && inserts_text a.area a.area.yank)
+        (unless_read_only a.area (str_inserted a.area (admitted a.area a.area.yank))) result a b) }
 {
     on!(handle, alloc, editor => flag(editor.area.paste()))
 }

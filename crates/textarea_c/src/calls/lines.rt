@@ -5,7 +5,7 @@ ghost use Rattle.textarea_text.specs.Fragment.{fragment_text};
 ghost use Rattle.textarea_text.specs.Text.{lines, lines_of};
 ghost use Rattle.textarea_util.specs.Limit.{size_limit};
 ghost use Rattle.textarea_c.specs.Calls.{Asks, Calls, ChangesIf, Copies, OnlyReads};
-ghost use Rattle.textarea_c.specs.Lines.{with_copied_lines};
+ghost use Rattle.tui_textarea.specs.Guards.{other_lines_set};
 ghost use Rattle.textarea_c_data.specs.Copied.{IsCopiedOut, ends_of, copied_over};
 ghost use Rattle.textarea_c_data.specs.Lines.{AreCharactersOut, IsLineOut, encoded_lines};
 ghost use Rattle.textarea_c_data.specs.Split.{lines_between};
@@ -37,7 +37,7 @@ pub extern "C" fn ta_set_lines(
 ) -> u32
     ensures { Calls handle.old.stored.content result handle.new.stored.content
         (λ a b. ChangesIf (some_of (lines_between text.now 0 ends.now))
-        (λ rows. with_copied_lines a.area rows (row, column)) result a b) }
+        (λ rows. other_lines_set a.area rows (row, column)) result a b) }
 {
     on!(handle, alloc, editor => match read_lines(alloc, text, ends) {
         Ok(found) => replace_lines(&mut editor, found, (row, column)),
@@ -48,7 +48,7 @@ pub extern "C" fn ta_set_lines(
 // Replaces the lines, if there are any, and returns the status.
 fn replace_lines(editor: &mut Editor, found: Option<Vec<String>>, cursor: (usize, usize)) -> u32
     ensures { ChangesIf (some_of (option_map (λ lines. lines_of lines.items) found))
-        (λ rows. with_copied_lines editor.old.area rows cursor) result editor.old editor.new }
+        (λ rows. other_lines_set editor.old.area rows cursor) result editor.old editor.new }
 {
     let Some(lines) = found else {
         return INVALID_ARGUMENT;

@@ -5,6 +5,7 @@ ghost use Rattle.textarea_ranges.specs.Lookup.{range_around};
 ghost use Rattle.textarea_ranges.specs.Order.{AreInOrder};
 ghost use Rattle.textarea_ranges.specs.Valid.{AreValid};
 ghost use Rattle.textarea_text.specs.Text.{lines};
+ghost use Rattle.tui_textarea.specs.Guards.{removable_range, unless_read_only};
 ghost use Rattle.tui_textarea.specs.Ranges.{cursor_normalized, atomic_range_removed};
 ghost use Rattle.textarea_c.specs.Calls.{Calls, OnlyReads, SetsValidRanges, Tries, TriesBy};
 ghost use Rattle.textarea_c_data.specs.Copied.{copied_over};
@@ -188,11 +189,11 @@ pub extern "C" fn ta_delete_atomic_range_at_cursor(
 ) -> u32
     ensures area { Calls handle.old.stored.content result handle.new.stored.content
         (λ a b. TriesBy (direction_of direction)
-        (λ side. is_some (range_at_cursor a.area.document side))
-        (λ side. atomic_range_removed a.area side) result a b) }
+        (λ side. is_some (removable_range a.area side))
+        (λ side. unless_read_only a.area (atomic_range_removed a.area side)) result a b) }
     ensures range { IfSome handle.old.stored.content (λ a. MatchOption (direction_of direction)
         (result ≡ 6) (λ side. result ≢ 2
-        → IsRangeOut (range_at_cursor a.area.document side) result range.new)) }
+        → IsRangeOut (removable_range a.area side) result range.new)) }
     ensures unwritten { result ≢ 0 → range.new ≡ range.old }
 {
     on!(handle, alloc, editor => remove_numbered(&mut editor, direction, range))
@@ -201,10 +202,11 @@ pub extern "C" fn ta_delete_atomic_range_at_cursor(
 // Removes the atomic range at the side with this number, if there is such a side.
 fn remove_numbered(editor: &mut Editor, direction: u32, range: &mut CRange) -> u32
     ensures area { TriesBy (direction_of direction)
-        (λ side. is_some (range_at_cursor editor.old.area.document side))
-        (λ side. atomic_range_removed editor.old.area side) result editor.old editor.new }
+        (λ side. is_some (removable_range editor.old.area side))
+        (λ side. unless_read_only editor.old.area (atomic_range_removed editor.old.area side))
+        result editor.old editor.new }
     ensures range { MatchOption (direction_of direction) (result ≡ 6) (λ side. result ≢ 2
-        → IsRangeOut (range_at_cursor editor.old.area.document side) result range.new) }
+        → IsRangeOut (removable_range editor.old.area side) result range.new) }
     ensures unwritten { result ≢ 0 → range.new ≡ range.old }
 {
     match read_direction(direction) {
@@ -215,10 +217,11 @@ fn remove_numbered(editor: &mut Editor, direction: u32, range: &mut CRange) -> u
 
 // Removes the atomic range at the cursor, if there is one, writes it, and returns the status.
 fn remove_range(editor: &mut Editor, direction: AtomicDeleteDirection, range: &mut CRange) -> u32
-    ensures area { Tries (is_some (range_at_cursor editor.old.area.document direction))
-        (atomic_range_removed editor.old.area direction) result editor.old editor.new }
+    ensures area { Tries (is_some (removable_range editor.old.area direction))
+        (unless_read_only editor.old.area (atomic_range_removed editor.old.area direction))
+        result editor.old editor.new }
     ensures range { result ≢ 2
-        → IsRangeOut (range_at_cursor editor.old.area.document direction) result range.new }
+        → IsRangeOut (removable_range editor.old.area direction) result range.new }
     ensures unwritten { result ≢ 0 → range.new ≡ range.old }
 {
     match editor.area.delete_atomic_range_at_cursor(direction) {

@@ -1,10 +1,10 @@
 //! Replacements of text, and of what lines begin with, each one group of edits.
-ghost use Rattle.std.specs.Prelude.{◌≡◌, ◌≢◌, IfSome, None, false, is_some, length, true};
+ghost use Rattle.std.specs.Prelude.{◌≡◌, ◌≢◌, ◌&&◌, IfSome, None, false, if◌then◌else◌, is_some, length, true};
 ghost use Rattle.std.specs.Str.{chars};
 ghost use Rattle.textarea_document.specs.Indenting.{lines_indented, lines_outdented, shifts_lines};
 ghost use Rattle.textarea_document.specs.Replacing.{replaces, stretch_symbols};
 ghost use Rattle.textarea_text.specs.Fragment.{fragment_symbols, fragment_text};
-ghost use Rattle.tui_textarea.specs.Prelude.{with_document};
+ghost use Rattle.tui_textarea.specs.Prelude.{admitted, is_editable, unless_read_only, with_document};
 ghost use Rattle.tui_textarea.specs.Replacing.{match_at_cursor, match_replaced, matches_replaced, replaceable, with_range_replaced};
 ghost use Rattle.textarea_c.specs.Calls.{Calls, ChangesArea, Copies, Given, Replaces};
 ghost use Rattle.textarea_c_data.specs.Lines.{AreCharactersOut};
@@ -65,10 +65,10 @@ pub extern "C" fn ta_replace_range(
 ) -> u32
     ensures { Calls handle.old.stored.content result handle.new.stored.content
         (λ a b. Given (text_in text.now) (λ t. Replaces
-        (replaces a.area.document.text (from_row, from_column) (to_row, to_column)
-        (fragment_symbols (chars t)))
-        (with_range_replaced a.area (from_row, from_column) (to_row, to_column)
-        (fragment_symbols (chars t)))) result a b) }
+        (is_editable a.area && replaces a.area.document.text (from_row, from_column)
+        (to_row, to_column) (admitted a.area (fragment_symbols (chars t))))
+        (unless_read_only a.area (with_range_replaced a.area (from_row, from_column)
+        (to_row, to_column) (admitted a.area (fragment_symbols (chars t)))))) result a b) }
 {
     on!(handle, alloc, editor => match text_of(text) {
         Some(text) => flag(editor.area.replace_range(
@@ -89,8 +89,9 @@ pub extern "C" fn ta_replace_range(
 #[unsafe(no_mangle)]
 pub extern "C" fn ta_replace_match(handle: &mut Handle, alloc: Global, text: &[u8]) -> u32
     ensures replaced { Calls handle.old.stored.content result handle.new.stored.content
-        (λ a b. Given (text_in text.now) (λ t. Replaces (is_some (match_at_cursor a.area))
-        (match_replaced a.area (fragment_symbols (chars t)))) result a b) }
+        (λ a b. Given (text_in text.now) (λ t. Replaces
+        (is_editable a.area && is_some (match_at_cursor a.area))
+        (unless_read_only a.area (match_replaced a.area (admitted a.area (fragment_symbols (chars t)))))) result a b) }
     ensures no_pattern { IfSome handle.old.stored.content
         (λ a. a.area.pattern ≡ None → result ≢ 2) }
 {
@@ -117,9 +118,10 @@ pub extern "C" fn ta_replace_all(
 ) -> u32
     ensures replaced { Calls handle.old.stored.content result handle.new.stored.content
         (λ a b. Given (text_in text.now) (λ t. ChangesArea
-        (matches_replaced a.area (fragment_symbols (chars t)))) result a b) }
+        (unless_read_only a.area (matches_replaced a.area (admitted a.area (fragment_symbols (chars t)))))) result a b) }
     ensures value { result ≡ 0 → IfSome handle.old.stored.content
-        (λ a. count.new ≡ length (replaceable a.area)) }
+        (λ a. count.new
+        ≡ (if a.area.settings.read_only then 0 else length (replaceable a.area))) }
     ensures no_pattern { IfSome handle.old.stored.content
         (λ a. a.area.pattern ≡ None → result ≢ 2) }
     ensures unwritten { result ≢ 0 → count.new ≡ count.old }
@@ -139,8 +141,9 @@ pub extern "C" fn ta_replace_all(
 #[unsafe(no_mangle)]
 pub extern "C" fn ta_indent_lines(handle: &mut Handle, alloc: Global) -> u32
     ensures { Calls handle.old.stored.content result handle.new.stored.content
-        (λ a b. Replaces (shifts_lines a.area.document false) (with_document a.area
-        (lines_indented a.area.document a.area.settings.hard_tab_indent a.area.time)) result a b) }
+        (λ a b. Replaces (is_editable a.area && shifts_lines a.area.document false)
+        (unless_read_only a.area (with_document a.area
+        (lines_indented a.area.document a.area.settings.hard_tab_indent a.area.time))) result a b) }
 {
     on!(handle, alloc, editor => flag(editor.area.indent_lines()))
 }
@@ -154,17 +157,20 @@ pub extern "C" fn ta_indent_lines(handle: &mut Handle, alloc: Global) -> u32
 #[unsafe(no_mangle)]
 pub extern "C" fn ta_outdent_lines(handle: &mut Handle, alloc: Global) -> u32
     ensures { Calls handle.old.stored.content result handle.new.stored.content
-        (λ a b. Replaces (shifts_lines a.area.document true) (with_document a.area
-        (lines_outdented a.area.document a.area.time)) result a b) }
+        (λ a b. Replaces (is_editable a.area && shifts_lines a.area.document true)
+        (unless_read_only a.area (with_document a.area
+        (lines_outdented a.area.document a.area.time))) result a b) }
 {
     on!(handle, alloc, editor => flag(editor.area.outdent_lines()))
 }
 
 // Replaces each match, writes their number, and returns the status.
 fn replace_matches(editor: &mut Editor, text: &str, count: &mut usize) -> u32
-    ensures replaced { ChangesArea (matches_replaced editor.old.area (fragment_symbols (chars text.now)))
+    ensures replaced { ChangesArea (unless_read_only editor.old.area
+        (matches_replaced editor.old.area (admitted editor.old.area (fragment_symbols (chars text.now)))))
         result editor.old editor.new }
-    ensures value { result ≡ 0 → count.new ≡ length (replaceable editor.old.area) }
+    ensures value { result ≡ 0 → count.new
+        ≡ (if editor.old.area.settings.read_only then 0 else length (replaceable editor.old.area)) }
     ensures no_pattern { editor.old.area.pattern ≡ None → result ≢ 2 }
     ensures unwritten { result ≢ 0 → count.new ≡ count.old }
 {

@@ -18,6 +18,8 @@ pub(super) fn reading<'a>(name: &str) -> Option<Call<'a>>
         "max_histories" => Some(Call::MaxHistories),
         "undo_coalescing" => Some(Call::UndoCoalescing),
         "undo_grouping" => Some(Call::UndoGrouping),
+        "read_only" => Some(Call::ReadOnly),
+        "single_line" => Some(Call::SingleLine),
         "tab_length" => Some(Call::TabLength),
         "hard_tab_indent" => Some(Call::HardTabIndent),
         "wrap_mode" => Some(Call::WrapMode),

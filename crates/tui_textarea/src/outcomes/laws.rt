@@ -1,6 +1,6 @@
 //! Laws of runs of calls, each the contract of a function that does nothing.
 ghost use Rattle.std.specs.Prelude.{◌≡◌, ◌≤◌, ℕ, false, [], All, List, Option};
-ghost use Rattle.tui_textarea.specs.Prelude.{Answer, CanApply, CanBeMade, ChangesFollow, ChangesLead, ChangesOfRun, SetsLog, taken_by, RangesOfRun, Run, SplicedBy, SplitNoRange, RangesStayWhole, IsSound, Buffer, State, WrapsByCall, Call, RangesFollowCall, IsUndoOrRedo, IsResultOf, IsAfterCall, IsAfterOutOfMemory, Leads, ShowsSame, CallResult, OfSplicesOutOfMemory, edits, splices_of};
+ghost use Rattle.tui_textarea.specs.Prelude.{Answer, CanApply, CanBeMade, ChangesFollow, ChangesLead, ChangesOfRun, SetsLines, SetsLog, taken_by, RangesOfRun, Run, SplicedBy, SplitNoRange, RangesStayWhole, IsSound, Buffer, State, WrapsByCall, Call, RangesFollowCall, IsUndoOrRedo, IsResultOf, IsAfterCall, IsAfterOutOfMemory, Leads, ShowsSame, CallResult, OfSplicesOutOfMemory, edits, is_editable, splices_of};
 
 use crate::drawing::laws::{one_drawing, one_rendering};
 use crate::laws::{one_input, one_move};
@@ -99,6 +99,13 @@ pub fn others_edit_nothing()
         splices_of state call ≡ [] }
     ensures text { (old new : State) (call : Call) (returned : CallResult) → edits call ≡ false →
         IsAfterCall old call returned new → new.document.text ≡ old.document.text }
+{}
+
+/// In a text area that is read only no call but `set_lines` changes the text.
+pub fn read_only_texts_stay()
+    ensures { (old new : State) (call : Call) (returned : CallResult) → is_editable old ≡ false →
+        ¬ SetsLines call → IsAfterCall old call returned new →
+        new.document.text ≡ old.document.text }
 {}
 
 /// Every call that can be made keeps the invariant of documents, in every state: cursor and anchor

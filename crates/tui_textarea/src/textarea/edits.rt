@@ -1,17 +1,17 @@
 //! Insertions. Each but `duplicate_line` first removes the selected text, as its own edit, and then
 //! moves a cursor that is strictly inside an atomic range to the range's end. With grouping on, both
 //! edits are one group.
-ghost use Rattle.std.specs.Prelude.{◌≡◌, ◌<◌, OnOk, OnErr, IsOk, IfOk, true, false, [], replicate, vec_len};
+ghost use Rattle.std.specs.Prelude.{◌≡◌, ◌<◌, OnOk, OnErr, IsOk, IfOk, true, false, [], replicate, vec_len, ◌&&◌, if◌then◌else◌};
 ghost use Rattle.std.specs.Arc.{arc_value};
 ghost use Rattle.std.specs.Str.{chars};
 ghost use Rattle.textarea_document.specs.Selection.{first_selected_row, last_selected_row, lines_duplicated, with_lines_again};
-ghost use Rattle.tui_textarea.specs.Prelude.{Character, lines, with_document, text_of, has_symbols, is_selected, fragment_symbols, pasted_symbols, inserts_tab, inserts_text, symbols_or_none_inserted, spaces_to_stop, char_inserted, char_or_break_inserted, line_broken, newline_inserted, tab_inserted, tab_or_spaces_inserted, str_inserted, IsInsertOutOfMemory, selection_cancelled, unselected};
+ghost use Rattle.tui_textarea.specs.Prelude.{Character, lines, with_document, text_of, has_symbols, is_selected, fragment_symbols, pasted_symbols, inserts_tab, inserts_text, symbols_or_none_inserted, spaces_to_stop, char_inserted, char_or_break_inserted, line_broken, newline_inserted, tab_inserted, tab_or_spaces_inserted, str_inserted, IsInsertOutOfMemory, selection_cancelled, unselected, admitted, bars_break, bars_character, is_editable, unless_read_only};
 
 use crate::textarea::TextArea;
 use std::alloc::{AllocError, Global};
 use std::sync::Arc;
 use textarea_document::document::insertions::has_symbol;
-use textarea_text::fragment::{fragment_of, unify_line_ends};
+use textarea_text::fragment::unify_line_ends;
 use textarea_text::tab::spaces_to_stop;
 use textarea_text::util::spaces;
 
@@ -19,6 +19,19 @@ impl TextArea<'_> {
     /// Inserts the character at the cursor, or at the end of the atomic range that strictly
     /// contains it, as typed; `\n` and `\r` break the line.
     pub fn insert_char(&mut self, c: char) -> Result<(), AllocError>
+        ensures ok { OnOk result (self.new ≡ (if bars_character self.old c then self.old else
+            char_inserted self.old c)) }
+        ensures err { OnErr result (IsInsertOutOfMemory self.old self.new) }
+        ensures nothing { bars_character self.old c ≡ true → IsOk result }
+    {
+        if self.bars_character(c) {
+            return Ok(());
+        }
+        self.insert_char_unguarded(c)
+    }
+
+    // The same, whether the text area is read only or not.
+    fn insert_char_unguarded(&mut self, c: char) -> Result<(), AllocError>
         ensures ok { OnOk result (self.new ≡ char_inserted self.old c) }
         ensures err { OnErr result (IsInsertOutOfMemory self.old self.new) }
     {
@@ -51,6 +64,18 @@ impl TextArea<'_> {
 
     /// Breaks the line at the cursor, or at the end of the atomic range that strictly contains it.
     pub fn insert_newline(&mut self) -> Result<(), AllocError>
+        ensures ok { OnOk result (self.new ≡ (if bars_break self.old then self.old else (newline_inserted self.old))) }
+        ensures err { OnErr result (IsInsertOutOfMemory self.old self.new) }
+        ensures nothing { bars_break self.old ≡ true → IsOk result }
+    {
+        if self.bars_break() {
+            return Ok(());
+        }
+        self.insert_newline_unguarded()
+    }
+
+    // The same, whether the text area is read only or not.
+    fn insert_newline_unguarded(&mut self) -> Result<(), AllocError>
         ensures ok { OnOk result (self.new ≡ newline_inserted self.old) }
         ensures err { OnErr result (IsInsertOutOfMemory self.old self.new) }
     {
@@ -73,10 +98,27 @@ impl TextArea<'_> {
     /// and returns whether it inserted something or removed a selection. Each line feed breaks the
     /// line; a carriage return directly before it is dropped.
     pub fn insert_str(&mut self, text: &str) -> Result<bool, AllocError>
+        ensures inserted { IfOk result (λ inserted. inserted ≡ (is_editable self.old && inserts_text
+            self.old (fragment_symbols (chars text.now)))) }
+        ensures ok { OnOk result (self.new ≡ unless_read_only self.old (str_inserted self.old (admitted self.old
+            (fragment_symbols (chars text.now))))) }
+        ensures err { OnErr result (IsInsertOutOfMemory self.old self.new) }
+        ensures nothing { (is_editable self.old && inserts_text self.old (fragment_symbols (chars
+            text.now))) ≡ false → IsOk result }
+    {
+        if self.read_only() {
+            return Ok(false);
+        }
+        self.insert_str_unguarded(text)
+    }
+
+    // The same, whether the text area is read only or not.
+    fn insert_str_unguarded(&mut self, text: &str) -> Result<bool, AllocError>
         ensures inserted { IfOk result
             (λ inserted. inserted ≡ inserts_text self.old (fragment_symbols (chars text.now))) }
         ensures ok { OnOk result
-            (self.new ≡ str_inserted self.old (fragment_symbols (chars text.now))) }
+            (self.new ≡ str_inserted self.old (admitted self.old
+            (fragment_symbols (chars text.now)))) }
         ensures err { OnErr result (IsInsertOutOfMemory self.old self.new) }
         ensures nothing { inserts_text self.old (fragment_symbols (chars text.now)) ≡ false → IsOk
             result }
@@ -84,8 +126,8 @@ impl TextArea<'_> {
         if !has_text(text) {
             return self.insert_nothing();
         }
-        let fragment_lines = fragment_of(self.allocator(), text)?;
-        self.insert_over_selection(Arc::new(self.allocator(), fragment_lines)?)?;
+        let fragment_lines = self.admitted_fragment(text)?;
+        self.insert_over_selection(fragment_lines)?;
         Ok(true)
     }
 
@@ -93,10 +135,27 @@ impl TextArea<'_> {
     /// it inserted something or removed a selection. Each line end breaks the line: a line feed, a
     /// carriage return, or a carriage return and a line feed.
     pub fn insert_pasted(&mut self, text: &str) -> Result<bool, AllocError>
+        ensures inserted { IfOk result (λ inserted. inserted ≡ (is_editable self.old && inserts_text
+            self.old (pasted_symbols (chars text.now)))) }
+        ensures ok { OnOk result (self.new ≡ unless_read_only self.old (str_inserted self.old (admitted self.old
+            (pasted_symbols (chars text.now))))) }
+        ensures err { OnErr result (IsInsertOutOfMemory self.old self.new) }
+        ensures nothing { (is_editable self.old && inserts_text self.old (pasted_symbols (chars
+            text.now))) ≡ false → IsOk result }
+    {
+        if self.read_only() {
+            return Ok(false);
+        }
+        self.insert_pasted_unguarded(text)
+    }
+
+    // The same, whether the text area is read only or not.
+    fn insert_pasted_unguarded(&mut self, text: &str) -> Result<bool, AllocError>
         ensures inserted { IfOk result
             (λ inserted. inserted ≡ inserts_text self.old (pasted_symbols (chars text.now))) }
         ensures ok { OnOk result
-            (self.new ≡ str_inserted self.old (pasted_symbols (chars text.now))) }
+            (self.new ≡ str_inserted self.old (admitted self.old
+            (pasted_symbols (chars text.now)))) }
         ensures err { OnErr result (IsInsertOutOfMemory self.old self.new) }
         ensures nothing { inserts_text self.old (pasted_symbols (chars text.now)) ≡ false → IsOk
             result }
@@ -105,13 +164,28 @@ impl TextArea<'_> {
             return self.insert_nothing();
         }
         let unified = unify_line_ends(self.allocator(), text)?;
-        self.insert_str(unified.as_str())
+        self.insert_str_unguarded(unified.as_str())
     }
 
     /// Inserts the yanked text where `insert_str` inserts, and returns whether there was any.
     pub fn paste(&mut self) -> Result<bool, AllocError>
+        ensures inserted { IfOk result (λ inserted. inserted ≡ (is_editable self.old && has_symbols
+            self.old.yank)) }
+        ensures ok { OnOk result (self.new ≡ unless_read_only self.old (str_inserted self.old (admitted self.old self.old.yank))) }
+        ensures err { OnErr result (IsInsertOutOfMemory self.old self.new) }
+        ensures nothing { (is_editable self.old && inserts_text self.old self.old.yank) ≡ false →
+            IsOk result }
+    {
+        if self.read_only() {
+            return Ok(false);
+        }
+        self.paste_unguarded()
+    }
+
+    // The same, whether the text area is read only or not.
+    fn paste_unguarded(&mut self) -> Result<bool, AllocError>
         ensures inserted { IfOk result (λ inserted. inserted ≡ has_symbols self.old.yank) }
-        ensures ok { OnOk result (self.new ≡ str_inserted self.old self.old.yank) }
+        ensures ok { OnOk result (self.new ≡ str_inserted self.old (admitted self.old self.old.yank)) }
         ensures err { OnErr result (IsInsertOutOfMemory self.old self.new) }
         ensures nothing { inserts_text self.old self.old.yank ≡ false → IsOk result }
     {
@@ -119,8 +193,9 @@ impl TextArea<'_> {
             self.insert_nothing()?;
             return Ok(false);
         }
-        let fragment_lines = self.yank.clone()?;
-        self.insert_over_selection(fragment_lines)
+        let fragment_lines = self.admitted(self.yank.clone()?)?;
+        self.insert_over_selection(fragment_lines)?;
+        Ok(true)
     }
 
     // Replaces the selected text by a fragment, and returns whether the fragment has a symbol.
@@ -159,6 +234,22 @@ impl TextArea<'_> {
     /// ranges stay with the first lines, and the copy has none. What was yanked stays. After it the
     /// lines are those up to the last of these lines, and then those from the first of them on.
     pub fn duplicate_line(&mut self) -> Result<(), AllocError>
+        ensures ok { OnOk result (self.new ≡ (if bars_break self.old then self.old else (with_document self.old
+            (lines_duplicated self.old.document self.old.time)))) }
+        ensures err { OnErr result (self.new ≡ self.old) }
+        ensures lines { OnOk result (lines self.new.document.text ≡ (if bars_break self.old
+            then lines self.old.document.text else with_lines_again (lines self.old.document.text)
+            (first_selected_row self.old.document) (last_selected_row self.old.document))) }
+        ensures nothing { bars_break self.old ≡ true → IsOk result }
+    {
+        if self.bars_break() {
+            return Ok(());
+        }
+        self.duplicate_line_unguarded()
+    }
+
+    // The same, whether the text area is read only or not.
+    fn duplicate_line_unguarded(&mut self) -> Result<(), AllocError>
         ensures ok { OnOk result (self.new
             ≡ with_document self.old (lines_duplicated self.old.document self.old.time)) }
         ensures err { OnErr result (self.new ≡ self.old) }
@@ -173,6 +264,20 @@ impl TextArea<'_> {
     /// and returns whether it inserted something or removed a selection. With hard tabs that is a
     /// tab character, as typed, otherwise spaces up to the next tab stop; at tab length 0 nothing.
     pub fn insert_tab(&mut self) -> Result<bool, AllocError>
+        ensures inserted { IfOk result (λ inserted. inserted ≡ (is_editable self.old && inserts_tab
+            self.old)) }
+        ensures ok { OnOk result (self.new ≡ unless_read_only self.old (tab_inserted self.old)) }
+        ensures err { OnErr result (IsInsertOutOfMemory self.old self.new) }
+        ensures nothing { (is_editable self.old && inserts_tab self.old) ≡ false → IsOk result }
+    {
+        if self.read_only() {
+            return Ok(false);
+        }
+        self.insert_tab_unguarded()
+    }
+
+    // The same, whether the text area is read only or not.
+    fn insert_tab_unguarded(&mut self) -> Result<bool, AllocError>
         ensures inserted { IfOk result (λ inserted. inserted ≡ inserts_tab self.old) }
         ensures ok { OnOk result (self.new ≡ tab_inserted self.old) }
         ensures err { OnErr result (IsInsertOutOfMemory self.old self.new) }

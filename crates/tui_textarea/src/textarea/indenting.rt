@@ -1,7 +1,7 @@
 //! Lines that are indented and outdented, each call one group of edits.
-ghost use Rattle.std.specs.Prelude.{◌≡◌, IfOk, OnErr, OnOk, [], false, true};
+ghost use Rattle.std.specs.Prelude.{◌≡◌, IfOk, OnErr, OnOk, [], false, true, ◌&&◌, IsOk, if◌then◌else◌};
 ghost use Rattle.textarea_document.specs.Indenting.{lines_indented, lines_outdented, shifts_lines, tab_of, with_starts};
-ghost use Rattle.tui_textarea.specs.Prelude.{lines, with_document};
+ghost use Rattle.tui_textarea.specs.Prelude.{lines, with_document, is_editable, unless_read_only};
 
 use crate::textarea::TextArea;
 use std::alloc::AllocError;
@@ -15,6 +15,24 @@ impl TextArea<'_> {
     /// move with the characters after them, but a selection that begins at column 0 still does.
     /// Atomic ranges move along. Without such a line nothing changes.
     pub fn indent_lines(&mut self) -> Result<bool, AllocError>
+        ensures indented { IfOk result (λ indented. indented ≡ (is_editable self.old && shifts_lines
+            self.old.document false)) }
+        ensures ok { OnOk result (self.new ≡ unless_read_only self.old (with_document self.old
+            (lines_indented self.old.document self.old.settings.hard_tab_indent self.old.time))) }
+        ensures err { OnErr result (self.new ≡ self.old) }
+        ensures lines { OnOk result (lines self.new.document.text ≡ (if self.old.settings.read_only
+            then lines self.old.document.text else with_starts self.old.document false (tab_of
+            self.old.document self.old.settings.hard_tab_indent) 0 (lines self.old.document.text))) }
+        ensures nothing { is_editable self.old ≡ false → IsOk result }
+    {
+        if self.read_only() {
+            return Ok(false);
+        }
+        self.indent_lines_unguarded()
+    }
+
+    // The same, whether the text area is read only or not.
+    fn indent_lines_unguarded(&mut self) -> Result<bool, AllocError>
         ensures indented { IfOk result
             (λ indented. indented ≡ shifts_lines self.old.document false) }
         ensures ok { OnOk result (self.new ≡ with_document self.old (lines_indented
@@ -34,6 +52,24 @@ impl TextArea<'_> {
     /// whether there were any. No character of an atomic range is removed, and nothing after the
     /// first one. All else is as for `indent_lines`.
     pub fn outdent_lines(&mut self) -> Result<bool, AllocError>
+        ensures outdented { IfOk result (λ outdented. outdented ≡ (is_editable self.old &&
+            shifts_lines self.old.document true)) }
+        ensures ok { OnOk result (self.new ≡ unless_read_only self.old (with_document self.old
+            (lines_outdented self.old.document self.old.time))) }
+        ensures err { OnErr result (self.new ≡ self.old) }
+        ensures lines { OnOk result (lines self.new.document.text ≡ (if self.old.settings.read_only
+            then lines self.old.document.text else with_starts self.old.document true [] 0 (lines
+            self.old.document.text))) }
+        ensures nothing { is_editable self.old ≡ false → IsOk result }
+    {
+        if self.read_only() {
+            return Ok(false);
+        }
+        self.outdent_lines_unguarded()
+    }
+
+    // The same, whether the text area is read only or not.
+    fn outdent_lines_unguarded(&mut self) -> Result<bool, AllocError>
         ensures outdented { IfOk result
             (λ outdented. outdented ≡ shifts_lines self.old.document true) }
         ensures ok { OnOk result (self.new ≡ with_document self.old

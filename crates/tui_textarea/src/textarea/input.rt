@@ -10,8 +10,8 @@ use textarea_data::input::Input;
 
 impl TextArea<'_> {
     /// Makes the call that the key table with shortcuts has for the input, and returns whether the
-    /// text changed: true for a character or a line break; the result of the call for any other
-    /// edit, undo and redo; false for `copy`, a move, a scroll, and an input that is not in the
+    /// text changed: true for a character or a line break, unless it is left out; the
+    /// result of the call for any other edit, undo and redo; false for `copy`, a move, a scroll, and an input that is not in the
     /// table, which changes nothing. With Shift, a move or scroll extends the selection, or begins
     /// one; without Shift it drops the selection. A move without a target changes nothing.
     pub fn input(&mut self, input: Input) -> Result<bool, AllocError>
@@ -49,8 +49,14 @@ impl TextArea<'_> {
     {
         match action {
             Action::Nothing => Ok(false),
-            Action::InsertChar(c) => self.insert_char(c).map(|()| true),
-            Action::InsertNewline => self.insert_newline().map(|()| true),
+            Action::InsertChar(c) => {
+                let inserts = !self.bars_character(c);
+                self.insert_char(c).map(|()| inserts)
+            }
+            Action::InsertNewline => {
+                let inserts = !self.bars_break();
+                self.insert_newline().map(|()| inserts)
+            }
             Action::InsertTab => self.insert_tab(),
             Action::Paste => self.paste(),
             Action::DeleteChar => self.delete_char(),
@@ -59,7 +65,10 @@ impl TextArea<'_> {
             Action::DeleteLineByHead => self.delete_line_by_head(),
             Action::DeleteWord => self.delete_word(),
             Action::DeleteNextWord => self.delete_next_word(),
-            Action::Cut => self.cut(),
+            Action::Cut => {
+                let editable = !self.read_only();
+                self.cut().map(|selected| editable && selected)
+            }
             Action::Copy => self.copy().map(|()| false),
             Action::Undo => self.undo(),
             Action::Redo => self.redo(),

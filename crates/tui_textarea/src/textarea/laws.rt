@@ -1,7 +1,7 @@
 //! Laws of text areas, each the contract of a function that does nothing.
 ghost use Rattle.std.specs.Prelude.{ℕ, ◌≡◌, ◌<◌, ◌≤◌, Bool, true, IfSome, List};
 ghost use Rattle.textarea_text.specs.Text.{Symbol};
-ghost use Rattle.tui_textarea.specs.Prelude.{Call, IsEditUndoneAtOnce, IsInsertion, IsPlace, IsReplacement, IsReplacementUndoneAtOnce, IsUndoneAtOnce, MakesFewEdits, Fits, Splice, done_groups, RestoresAll, RestoresDocument, ListsFit, AreInTextOrder, LeadsToFirstMatch, LeadsToMatchAfter, starts_in, after_edit, is_selected, IsSound, HasRowsFromScratch, PastesCopy};
+ghost use Rattle.tui_textarea.specs.Prelude.{Call, IsEditUndoneAtOnce, IsInsertion, IsPlace, IsReplacement, IsReplacementUndoneAtOnce, IsUndoneAtOnce, MakesFewEdits, Fits, Splice, done_groups, RestoresAll, RestoresDocument, ListsFit, AreInTextOrder, LeadsToFirstMatch, LeadsToMatchAfter, starts_in, after_edit, is_editable, is_selected, IsSound, HasRowsFromScratch, PastesCopy};
 ghost use Rattle.tui_textarea.specs.Matches.{BeginsWithFirst, GoesThroughMatches};
 ghost use Rattle.tui_textarea.specs.TextsBefore.{StepsBack};
 
@@ -80,11 +80,12 @@ pub fn edits_fit(area: &TextArea<'_>)
     area.document.edits_fit();
 }
 
-/// The law of copying, for every text area with selected text: a `paste` after a `copy` returns
+/// The law of copying, for every text area with selected text that can be edited: a `paste` after a `copy` returns
 /// true, and inserts exactly the selected symbols, at the cursor or at the end of the atomic range
 /// that strictly contains it.
 pub fn copy_then_paste(area: &TextArea<'_>)
-    ensures { is_selected area.now.document ≡ true → PastesCopy area.now }
+    ensures { is_editable area.now ≡ true → is_selected area.now.document ≡ true
+        → PastesCopy area.now }
 {
     let _ = area.document.filled_selection();
 }

@@ -1,6 +1,6 @@
 //! Undo and redo.
-ghost use Rattle.std.specs.Prelude.{◌≡◌, OnOk, OnErr, IsOk, IfOk, None, is_some};
-ghost use Rattle.tui_textarea.specs.Prelude.{newest, next, after_redo, after_undo, with_document};
+ghost use Rattle.std.specs.Prelude.{◌≡◌, OnOk, OnErr, IsOk, IfOk, None, is_some, ◌&&◌, false};
+ghost use Rattle.tui_textarea.specs.Prelude.{newest, next, after_redo, after_undo, with_document, is_editable, unless_read_only};
 
 use crate::textarea::TextArea;
 use std::alloc::AllocError;
@@ -10,6 +10,22 @@ impl TextArea<'_> {
     /// is then after the restored text, or where the removed text began, and nothing is selected.
     /// An undo of something closes an open group.
     pub fn undo(&mut self) -> Result<bool, AllocError>
+        ensures undone { IfOk result (λ found. found ≡ (is_editable self.old && is_some (newest
+            self.old.document.log))) }
+        ensures ok { OnOk result (self.new ≡ unless_read_only self.old (with_document self.old
+            (after_undo self.old.document))) }
+        ensures err { OnErr result (self.new ≡ self.old) }
+        ensures nothing { (is_editable self.old && is_some (newest self.old.document.log)) ≡ false
+            → IsOk result }
+    {
+        if self.read_only() {
+            return Ok(false);
+        }
+        self.undo_unguarded()
+    }
+
+    // The same, whether the text area is read only or not.
+    fn undo_unguarded(&mut self) -> Result<bool, AllocError>
         ensures undone { IfOk result (λ found. found ≡ is_some (newest self.old.document.log)) }
         ensures ok { OnOk result
             (self.new ≡ with_document self.old (after_undo self.old.document)) }
@@ -23,6 +39,22 @@ impl TextArea<'_> {
     /// one. The cursor is then where the last of them left it, and nothing is selected. A redo of
     /// something closes an open group.
     pub fn redo(&mut self) -> Result<bool, AllocError>
+        ensures redone { IfOk result (λ found. found ≡ (is_editable self.old && is_some (next
+            self.old.document.log))) }
+        ensures ok { OnOk result (self.new ≡ unless_read_only self.old (with_document self.old
+            (after_redo self.old.document))) }
+        ensures err { OnErr result (self.new ≡ self.old) }
+        ensures nothing { (is_editable self.old && is_some (next self.old.document.log)) ≡ false
+            → IsOk result }
+    {
+        if self.read_only() {
+            return Ok(false);
+        }
+        self.redo_unguarded()
+    }
+
+    // The same, whether the text area is read only or not.
+    fn redo_unguarded(&mut self) -> Result<bool, AllocError>
         ensures redone { IfOk result (λ found. found ≡ is_some (next self.old.document.log)) }
         ensures ok { OnOk result
             (self.new ≡ with_document self.old (after_redo self.old.document)) }

@@ -1,6 +1,6 @@
 //! Atomic ranges: spans of characters in a line that are edited as a whole.
 ghost use Rattle.std.specs.Prelude.{◌≡◌, IfOk, IsOk, MatchResult, None, OnErr, OnOk, is_some};
-ghost use Rattle.tui_textarea.specs.Prelude.{lines, range_around, AreInOrder, AreRejected, AreValid, range_at_cursor, cursor_normalized, atomic_range_removed, ranges_accepted, ranges_cleared};
+ghost use Rattle.tui_textarea.specs.Prelude.{lines, range_around, AreInOrder, AreRejected, AreValid, range_at_cursor, cursor_normalized, atomic_range_removed, ranges_accepted, ranges_cleared, removable_range, unless_read_only};
 
 use crate::textarea::TextArea;
 use std::alloc::AllocError;
@@ -84,6 +84,23 @@ impl TextArea<'_> {
     /// open; if its beginning is past its line's end after that, it moves to that end. Without a
     /// range at the cursor nothing changes.
     pub fn delete_atomic_range_at_cursor(
+        &mut self,
+        direction: AtomicDeleteDirection,
+    ) -> Result<Option<AtomicRange>, AllocError>
+        ensures removed { IfOk result (λ range. range ≡ removable_range self.old direction) }
+        ensures ok { OnOk result
+            (self.new ≡ unless_read_only self.old (atomic_range_removed self.old direction)) }
+        ensures err { OnErr result (self.new ≡ self.old) }
+        ensures nothing { removable_range self.old direction ≡ None → IsOk result }
+    {
+        if self.read_only() {
+            return Ok(None);
+        }
+        self.delete_atomic_range_at_cursor_unguarded(direction)
+    }
+
+    // The same, whether the text area is read only or not.
+    fn delete_atomic_range_at_cursor_unguarded(
         &mut self,
         direction: AtomicDeleteDirection,
     ) -> Result<Option<AtomicRange>, AllocError>

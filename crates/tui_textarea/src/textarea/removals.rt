@@ -1,6 +1,6 @@
 //! Removals. If text is selected, each of them but `clear` removes only that.
-ghost use Rattle.std.specs.Prelude.{◌≡◌, ◌<◌, OnOk, OnErr, IsOk, IfOk, IfSome, MatchOption, false, true};
-ghost use Rattle.tui_textarea.specs.Prelude.{IsPlace, index_of, place_of, has_symbols, break_before_removed, text_cleared, has_ahead, has_before, has_after, has_break_before, has_line_before, has_line_after, has_word_before, has_word_after, index_ahead, back_to_word_removed, on_to_word_end_removed, line_end_removed, line_head_removed, removes_or, symbol_before_removed, symbol_after_removed, symbols_ahead_removed, unselected_or, word_before_removed, word_after_removed, yanked};
+ghost use Rattle.std.specs.Prelude.{◌≡◌, ◌<◌, OnOk, OnErr, IsOk, IfOk, IfSome, MatchOption, false, true, ◌&&◌};
+ghost use Rattle.tui_textarea.specs.Prelude.{IsPlace, index_of, place_of, has_symbols, break_before_removed, text_cleared, has_ahead, has_before, has_after, has_break_before, has_line_before, has_line_after, has_word_before, has_word_after, index_ahead, back_to_word_removed, on_to_word_end_removed, line_end_removed, line_head_removed, removes_or, symbol_before_removed, symbol_after_removed, symbols_ahead_removed, unselected_or, word_before_removed, word_after_removed, yanked, is_editable, unless_read_only};
 
 use crate::textarea::TextArea;
 use std::alloc::AllocError;
@@ -12,6 +12,22 @@ impl TextArea<'_> {
     /// Removes the atomic range that ends at the cursor or strictly contains it, or else the
     /// character before the cursor, or at column 0 the line break. Returns whether it removed text.
     pub fn delete_char(&mut self) -> Result<bool, AllocError>
+        ensures removed { IfOk result (λ removed. removed ≡ (is_editable self.old && removes_or
+            self.old (has_before self.old))) }
+        ensures ok { OnOk result (self.new ≡ unless_read_only self.old (unselected_or self.old
+            (symbol_before_removed self.old))) }
+        ensures err { OnErr result (self.new ≡ self.old) }
+        ensures nothing { (is_editable self.old && removes_or self.old (has_before self.old)) ≡
+            false → IsOk result }
+    {
+        if self.read_only() {
+            return Ok(false);
+        }
+        self.delete_char_unguarded()
+    }
+
+    // The same, whether the text area is read only or not.
+    fn delete_char_unguarded(&mut self) -> Result<bool, AllocError>
         ensures removed { IfOk result
             (λ removed. removed ≡ removes_or self.old (has_before self.old)) }
         ensures ok { OnOk result
@@ -30,6 +46,22 @@ impl TextArea<'_> {
     /// character after the cursor, or at a line's end the line break. Returns whether text was
     /// removed.
     pub fn delete_next_char(&mut self) -> Result<bool, AllocError>
+        ensures removed { IfOk result (λ removed. removed ≡ (is_editable self.old && removes_or
+            self.old (has_after self.old))) }
+        ensures ok { OnOk result (self.new ≡ unless_read_only self.old (unselected_or self.old
+            (symbol_after_removed self.old))) }
+        ensures err { OnErr result (self.new ≡ self.old) }
+        ensures nothing { (is_editable self.old && removes_or self.old (has_after self.old)) ≡ false
+            → IsOk result }
+    {
+        if self.read_only() {
+            return Ok(false);
+        }
+        self.delete_next_char_unguarded()
+    }
+
+    // The same, whether the text area is read only or not.
+    fn delete_next_char_unguarded(&mut self) -> Result<bool, AllocError>
         ensures removed { IfOk result
             (λ removed. removed ≡ removes_or self.old (has_after self.old)) }
         ensures ok { OnOk result
@@ -46,6 +78,22 @@ impl TextArea<'_> {
 
     /// Removes the line break before the cursor's line. Returns whether text was removed.
     pub fn delete_newline(&mut self) -> Result<bool, AllocError>
+        ensures removed { IfOk result (λ removed. removed ≡ (is_editable self.old && removes_or
+            self.old (has_break_before self.old))) }
+        ensures ok { OnOk result (self.new ≡ unless_read_only self.old (unselected_or self.old
+            (break_before_removed self.old))) }
+        ensures err { OnErr result (self.new ≡ self.old) }
+        ensures nothing { (is_editable self.old && removes_or self.old (has_break_before self.old))
+            ≡ false → IsOk result }
+    {
+        if self.read_only() {
+            return Ok(false);
+        }
+        self.delete_newline_unguarded()
+    }
+
+    // The same, whether the text area is read only or not.
+    fn delete_newline_unguarded(&mut self) -> Result<bool, AllocError>
         ensures removed { IfOk result
             (λ removed. removed ≡ removes_or self.old (has_break_before self.old)) }
         ensures ok { OnOk result
@@ -62,6 +110,22 @@ impl TextArea<'_> {
     /// Removes and yanks the next `count` characters after the cursor, or all if there are fewer;
     /// each line break counts as one. Returns whether text was removed.
     pub fn delete_str(&mut self, count: usize) -> Result<bool, AllocError>
+        ensures removed { IfOk result (λ removed. removed ≡ (is_editable self.old && removes_or
+            self.old (has_ahead self.old count))) }
+        ensures ok { OnOk result (self.new ≡ unless_read_only self.old (unselected_or self.old
+            (symbols_ahead_removed self.old count))) }
+        ensures err { OnErr result (self.new ≡ self.old) }
+        ensures nothing { (is_editable self.old && removes_or self.old (has_ahead self.old count)) ≡
+            false → IsOk result }
+    {
+        if self.read_only() {
+            return Ok(false);
+        }
+        self.delete_str_unguarded(count)
+    }
+
+    // The same, whether the text area is read only or not.
+    fn delete_str_unguarded(&mut self, count: usize) -> Result<bool, AllocError>
         ensures removed { IfOk result
             (λ removed. removed ≡ removes_or self.old (has_ahead self.old count)) }
         ensures ok { OnOk result
@@ -84,6 +148,22 @@ impl TextArea<'_> {
     /// Removes and yanks the text from the cursor to its line's end; at the line's end it does what
     /// `delete_next_char` does. Returns whether text was removed.
     pub fn delete_line_by_end(&mut self) -> Result<bool, AllocError>
+        ensures removed { IfOk result (λ removed. removed ≡ (is_editable self.old && removes_or
+            self.old (has_line_after self.old))) }
+        ensures ok { OnOk result (self.new ≡ unless_read_only self.old (unselected_or self.old
+            (line_end_removed self.old))) }
+        ensures err { OnErr result (self.new ≡ self.old) }
+        ensures nothing { (is_editable self.old && removes_or self.old (has_line_after self.old)) ≡
+            false → IsOk result }
+    {
+        if self.read_only() {
+            return Ok(false);
+        }
+        self.delete_line_by_end_unguarded()
+    }
+
+    // The same, whether the text area is read only or not.
+    fn delete_line_by_end_unguarded(&mut self) -> Result<bool, AllocError>
         ensures removed { IfOk result
             (λ removed. removed ≡ removes_or self.old (has_line_after self.old)) }
         ensures ok { OnOk result (self.new ≡ unselected_or self.old (line_end_removed self.old)) }
@@ -107,6 +187,22 @@ impl TextArea<'_> {
     /// Removes and yanks the text from the line's start to the cursor; at the line's start it does
     /// what `delete_newline` does. Returns whether text was removed.
     pub fn delete_line_by_head(&mut self) -> Result<bool, AllocError>
+        ensures removed { IfOk result (λ removed. removed ≡ (is_editable self.old && removes_or
+            self.old (has_line_before self.old))) }
+        ensures ok { OnOk result (self.new ≡ unless_read_only self.old (unselected_or self.old
+            (line_head_removed self.old))) }
+        ensures err { OnErr result (self.new ≡ self.old) }
+        ensures nothing { (is_editable self.old && removes_or self.old (has_line_before self.old)) ≡
+            false → IsOk result }
+    {
+        if self.read_only() {
+            return Ok(false);
+        }
+        self.delete_line_by_head_unguarded()
+    }
+
+    // The same, whether the text area is read only or not.
+    fn delete_line_by_head_unguarded(&mut self) -> Result<bool, AllocError>
         ensures removed { IfOk result
             (λ removed. removed ≡ removes_or self.old (has_line_before self.old)) }
         ensures ok { OnOk result (self.new ≡ unselected_or self.old (line_head_removed self.old)) }
@@ -129,6 +225,22 @@ impl TextArea<'_> {
     /// to the cursor; at column 0 it does what `delete_newline` does. Returns whether text was
     /// removed.
     pub fn delete_word(&mut self) -> Result<bool, AllocError>
+        ensures removed { IfOk result (λ removed. removed ≡ (is_editable self.old && removes_or
+            self.old (has_word_before self.old))) }
+        ensures ok { OnOk result (self.new ≡ unless_read_only self.old (unselected_or self.old
+            (word_before_removed self.old))) }
+        ensures err { OnErr result (self.new ≡ self.old) }
+        ensures nothing { (is_editable self.old && removes_or self.old (has_word_before self.old)) ≡
+            false → IsOk result }
+    {
+        if self.read_only() {
+            return Ok(false);
+        }
+        self.delete_word_unguarded()
+    }
+
+    // The same, whether the text area is read only or not.
+    fn delete_word_unguarded(&mut self) -> Result<bool, AllocError>
         ensures removed { IfOk result
             (λ removed. removed ≡ removes_or self.old (has_word_before self.old)) }
         ensures ok { OnOk result
@@ -150,6 +262,22 @@ impl TextArea<'_> {
     /// removes and yanks the text from the cursor to the word's end, or to the line's end; at the
     /// line's end it does what `delete_next_char` does. Returns whether text was removed.
     pub fn delete_next_word(&mut self) -> Result<bool, AllocError>
+        ensures removed { IfOk result (λ removed. removed ≡ (is_editable self.old && removes_or
+            self.old (has_word_after self.old))) }
+        ensures ok { OnOk result (self.new ≡ unless_read_only self.old (unselected_or self.old
+            (word_after_removed self.old))) }
+        ensures err { OnErr result (self.new ≡ self.old) }
+        ensures nothing { (is_editable self.old && removes_or self.old (has_word_after self.old)) ≡
+            false → IsOk result }
+    {
+        if self.read_only() {
+            return Ok(false);
+        }
+        self.delete_next_word_unguarded()
+    }
+
+    // The same, whether the text area is read only or not.
+    fn delete_next_word_unguarded(&mut self) -> Result<bool, AllocError>
         ensures removed { IfOk result
             (λ removed. removed ≡ removes_or self.old (has_word_after self.old)) }
         ensures ok { OnOk result
@@ -170,6 +298,21 @@ impl TextArea<'_> {
     /// Removes and yanks the whole text, as one edit, and returns whether there was any. An empty
     /// text area stays unchanged.
     pub fn clear(&mut self) -> Result<bool, AllocError>
+        ensures removed { IfOk result (λ removed. removed ≡ (is_editable self.old && has_symbols
+            self.old.document.text)) }
+        ensures ok { OnOk result (self.new ≡ unless_read_only self.old (text_cleared self.old)) }
+        ensures err { OnErr result (self.new ≡ self.old) }
+        ensures nothing { (is_editable self.old && has_symbols self.old.document.text) ≡ false →
+            IsOk result }
+    {
+        if self.read_only() {
+            return Ok(false);
+        }
+        self.clear_unguarded()
+    }
+
+    // The same, whether the text area is read only or not.
+    fn clear_unguarded(&mut self) -> Result<bool, AllocError>
         ensures removed { IfOk result (λ removed. removed ≡ has_symbols self.old.document.text) }
         ensures ok { OnOk result (self.new ≡ text_cleared self.old) }
         ensures err { OnErr result (self.new ≡ self.old) }

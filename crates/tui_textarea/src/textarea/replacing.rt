@@ -1,9 +1,9 @@
 //! Replacements of text, each one group of edits.
-ghost use Rattle.std.specs.Prelude.{◌≡◌, None, OnOk, OnErr, IsOk, IfOk, is_some, length, string_bytes};
+ghost use Rattle.std.specs.Prelude.{◌≡◌, None, OnOk, OnErr, IsOk, IfOk, is_some, length, string_bytes, ◌&&◌, false, if◌then◌else◌};
 ghost use Rattle.std.specs.Arc.{arc_value};
 ghost use Rattle.std.specs.Str.{chars};
 ghost use Rattle.textarea_document.specs.Replacing.{replaces, stretch_symbols};
-ghost use Rattle.tui_textarea.specs.Prelude.{fragment_symbols, fragment_text, text_of};
+ghost use Rattle.tui_textarea.specs.Prelude.{fragment_symbols, fragment_text, text_of, admitted, is_editable, unless_read_only};
 ghost use Rattle.tui_textarea.specs.Replacing.{match_at_cursor, match_replaced, match_replaced_by, matches_replaced, replaceable, with_range_replaced};
 
 use crate::matches::{match_at, replaceable_in};
@@ -35,13 +35,33 @@ impl TextArea<'_> {
         to: (usize, usize),
         text: &str,
     ) -> Result<bool, AllocError>
+        ensures replaced { IfOk result (λ replaced. replaced ≡ (is_editable self.old && replaces
+            self.old.document.text from to (admitted self.old (fragment_symbols (chars text.now))))) }
+        ensures ok { OnOk result (self.new ≡ unless_read_only self.old (with_range_replaced self.old
+            from to (admitted self.old (fragment_symbols (chars text.now))))) }
+        ensures err { OnErr result (self.new ≡ self.old) }
+        ensures nothing { is_editable self.old ≡ false → IsOk result }
+    {
+        if self.read_only() {
+            return Ok(false);
+        }
+        self.replace_range_unguarded(from, to, text)
+    }
+
+    // The same, whether the text area is read only or not.
+    fn replace_range_unguarded(
+        &mut self,
+        from: (usize, usize),
+        to: (usize, usize),
+        text: &str,
+    ) -> Result<bool, AllocError>
         ensures replaced { IfOk result (λ replaced. replaced
-            ≡ replaces self.old.document.text from to (fragment_symbols (chars text.now))) }
+            ≡ replaces self.old.document.text from to (admitted self.old (fragment_symbols (chars text.now)))) }
         ensures ok { OnOk result (self.new
-            ≡ with_range_replaced self.old from to (fragment_symbols (chars text.now))) }
+            ≡ with_range_replaced self.old from to (admitted self.old (fragment_symbols (chars text.now)))) }
         ensures err { OnErr result (self.new ≡ self.old) }
     {
-        let fragment_lines = self.shared_fragment(text)?;
+        let fragment_lines = self.admitted_fragment(text)?;
         self.document
             .replace_range(from, to, fragment_lines, self.time)
     }
@@ -52,10 +72,26 @@ impl TextArea<'_> {
     /// Without one, or if an end of it is strictly inside an atomic range, it only searches as
     /// `search_forward(false)` does.
     pub fn replace_match(&mut self, text: &str) -> Result<bool, AllocError>
+        ensures replaced { IfOk result (λ replaced. replaced ≡ (is_editable self.old && is_some
+            (match_at_cursor self.old))) }
+        ensures ok { OnOk result (self.new ≡ unless_read_only self.old (match_replaced self.old
+            (admitted self.old (fragment_symbols (chars text.now))))) }
+        ensures err { OnErr result (self.new ≡ self.old) }
+        ensures no_pattern { self.old.pattern ≡ None → IsOk result }
+        ensures read_only { is_editable self.old ≡ false → IsOk result }
+    {
+        if self.read_only() {
+            return Ok(false);
+        }
+        self.replace_match_unguarded(text)
+    }
+
+    // The same, whether the text area is read only or not.
+    fn replace_match_unguarded(&mut self, text: &str) -> Result<bool, AllocError>
         ensures replaced { IfOk result
             (λ replaced. replaced ≡ is_some (match_at_cursor self.old)) }
         ensures ok { OnOk result
-            (self.new ≡ match_replaced self.old (fragment_symbols (chars text.now))) }
+            (self.new ≡ match_replaced self.old (admitted self.old (fragment_symbols (chars text.now)))) }
         ensures err { OnErr result (self.new ≡ self.old) }
         ensures no_pattern { self.old.pattern ≡ None → IsOk result }
     {
@@ -79,9 +115,25 @@ impl TextArea<'_> {
     /// before, so nothing can be undone. `set_max_histories` with twice the number of matches makes
     /// room for them; since it forgets all edits, it is best called before the first one.
     pub fn replace_all(&mut self, text: &str) -> Result<usize, AllocError>
+        ensures count { IfOk result (λ count. count ≡ (if self.old.settings.read_only then 0 else
+            length (replaceable self.old))) }
+        ensures ok { OnOk result (self.new ≡ unless_read_only self.old (matches_replaced self.old
+            (admitted self.old (fragment_symbols (chars text.now))))) }
+        ensures err { OnErr result (self.new ≡ self.old) }
+        ensures no_pattern { self.old.pattern ≡ None → IsOk result }
+        ensures read_only { is_editable self.old ≡ false → IsOk result }
+    {
+        if self.read_only() {
+            return Ok(0);
+        }
+        self.replace_all_unguarded(text)
+    }
+
+    // The same, whether the text area is read only or not.
+    fn replace_all_unguarded(&mut self, text: &str) -> Result<usize, AllocError>
         ensures count { IfOk result (λ count. count ≡ length (replaceable self.old)) }
         ensures ok { OnOk result
-            (self.new ≡ matches_replaced self.old (fragment_symbols (chars text.now))) }
+            (self.new ≡ matches_replaced self.old (admitted self.old (fragment_symbols (chars text.now)))) }
         ensures err { OnErr result (self.new ≡ self.old) }
         ensures no_pattern { self.old.pattern ≡ None → IsOk result }
     {
@@ -89,20 +141,20 @@ impl TextArea<'_> {
         if stretches.is_empty() {
             return Ok(0);
         }
-        let fragment_lines = self.shared_fragment(text)?;
+        let fragment_lines = self.admitted_fragment(text)?;
         self.document
             .replace_all(stretches.as_slice(), &fragment_lines, self.time)?;
         Ok(stretches.len())
     }
 
-    // Returns the text as a fragment.
-    fn shared_fragment(&self, text: &str) -> Result<Arc<Vec<String>>, AllocError>
-        ensures { IfOk result (λ fragment_lines.
-            text_of (arc_value fragment_lines).items ≡ fragment_symbols (chars text.now)) }
+    // Returns what is inserted of the text, as a fragment.
+    pub(super) fn admitted_fragment(&self, text: &str) -> Result<Arc<Vec<String>>, AllocError>
+        ensures { IfOk result (λ fragment_lines. text_of (arc_value fragment_lines).items
+            ≡ admitted self.now (fragment_symbols (chars text.now))) }
     {
         let alloc = self.allocator();
         let fragment_lines = fragment_of(alloc, text)?;
-        Ok(Arc::new(alloc, fragment_lines)?)
+        self.admitted(Arc::new(alloc, fragment_lines)?)
     }
 
     // Returns the numbers of symbols before the start and before the end of each match that can be
@@ -130,11 +182,11 @@ impl TextArea<'_> {
     // Replaces the match, and moves the cursor to the next one.
     fn replace_found(&mut self, found: TextMatch, text: &str) -> Result<(), AllocError>
         ensures ok { OnOk result (self.new
-            ≡ match_replaced_by (Some found) self.old (fragment_symbols (chars text.now))) }
+            ≡ match_replaced_by (Some found) self.old (admitted self.old (fragment_symbols (chars text.now)))) }
         ensures err { OnErr result (self.new ≡ self.old) }
     {
         let (first, last) = found.columns;
-        let fragment_lines = self.shared_fragment(text)?;
+        let fragment_lines = self.admitted_fragment(text)?;
         let copy = self.document.replaced(
             (found.row, first),
             (found.row, last),

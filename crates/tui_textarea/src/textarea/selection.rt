@@ -1,5 +1,5 @@
 //! The selection, copying and cutting.
-ghost use Rattle.std.specs.Prelude.{◌≡◌, OnOk, OnErr, IsOk, IfOk, IfSome, false, is_some, string_bytes};
+ghost use Rattle.std.specs.Prelude.{◌≡◌, OnOk, OnErr, IsOk, IfOk, IfSome, false, is_some, string_bytes, if◌then◌else◌};
 ghost use Rattle.std.specs.Str.{chars};
 ghost use Rattle.tui_textarea.specs.Prelude.{IsPlace, is_selected, selection, fragment_symbols, fragment_text, all_selected, selection_copied, selection_cut, selection_cancelled, selection_started};
 
@@ -55,16 +55,44 @@ impl TextArea<'_> {
         ensures err { OnErr result (self.new ≡ self.old) }
         ensures nothing { is_selected self.old.document ≡ false → IsOk result }
     {
-        if let Some((start, end)) = self.document.filled_selection() {
-            let copied = between(self.allocator(), self.document.lines(), start, end)?;
-            self.yank = Arc::new(self.allocator(), copied)?;
-        }
-        self.document.set_anchor(None);
+        self.copy_selected()?;
         Ok(())
     }
 
-    /// Yanks and removes the selected text, returns whether there was any, and drops the selection.
+    // The same, and returns whether there was any.
+    fn copy_selected(&mut self) -> Result<bool, AllocError>
+        ensures copied { IfOk result (λ copied. copied ≡ is_selected self.old.document) }
+        ensures ok { OnOk result (self.new ≡ selection_copied self.old) }
+        ensures err { OnErr result (self.new ≡ self.old) }
+        ensures nothing { is_selected self.old.document ≡ false → IsOk result }
+    {
+        let Some((start, end)) = self.document.filled_selection() else {
+            self.document.set_anchor(None);
+            return Ok(false);
+        };
+        let copied = between(self.allocator(), self.document.lines(), start, end)?;
+        self.yank = Arc::new(self.allocator(), copied)?;
+        self.document.set_anchor(None);
+        Ok(true)
+    }
+
+    /// Yanks and removes the selected text, returns whether there was any, and drops the selection. A
+    /// text area that is read only keeps the text.
     pub fn cut(&mut self) -> Result<bool, AllocError>
+        ensures removed { IfOk result (λ removed. removed ≡ is_selected self.old.document) }
+        ensures ok { OnOk result (self.new ≡ (if self.old.settings.read_only then selection_copied
+            self.old else selection_cut self.old)) }
+        ensures err { OnErr result (self.new ≡ self.old) }
+        ensures nothing { is_selected self.old.document ≡ false → IsOk result }
+    {
+        if self.read_only() {
+            return self.copy_selected();
+        }
+        self.cut_unguarded()
+    }
+
+    // The same, whether the text area is read only or not.
+    fn cut_unguarded(&mut self) -> Result<bool, AllocError>
         ensures removed { IfOk result (λ removed. removed ≡ is_selected self.old.document) }
         ensures ok { OnOk result (self.new ≡ selection_cut self.old) }
         ensures err { OnErr result (self.new ≡ self.old) }

@@ -16,10 +16,15 @@ pub struct Settings {
     pub undo_coalescing: bool,
     /// Whether all edits of one call are one group, which is undone at once.
     pub undo_grouping: bool,
+    /// Whether no call but `set_lines` changes the text.
+    pub read_only: bool,
+    /// Whether the text is kept in a single line.
+    pub single_line: bool,
 }
 
 impl Default for Settings {
-    /// Tabs as spaces, typed edits do not join, and no edits are grouped.
+    /// Tabs as spaces, typed edits do not join, no edits are grouped, and the text can be edited
+    /// and have several lines.
     fn default() -> Settings
         ensures { result ≡ default_settings }
     {
@@ -27,6 +32,8 @@ impl Default for Settings {
             hard_tab_indent: false,
             undo_coalescing: false,
             undo_grouping: false,
+            read_only: false,
+            single_line: false,
         }
     }
 }

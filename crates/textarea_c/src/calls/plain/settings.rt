@@ -4,7 +4,7 @@ ghost use Rattle.std.specs.Prelude.{◌≡◌, ◌≢◌, IfSome};
 ghost use Rattle.textarea_view.specs.SurroundState.{AreBounds};
 ghost use Rattle.tui_textarea.specs.Calls.{result_of_call};
 ghost use Rattle.tui_textarea.specs.Input.{flag_of};
-ghost use Rattle.textarea_c.specs.Calls.{Answers, Calls, MakesChange, MakesSetting, OnlyReads, number_in};
+ghost use Rattle.textarea_c.specs.Calls.{Answers, Calls, MakesAttempt, MakesChange, MakesSetting, OnlyReads, number_in};
 ghost use Rattle.textarea_calls.specs.declared.call.Call.TheVariants as call;
 
 use crate::calls::on;
@@ -35,6 +35,37 @@ pub extern "C" fn ta_set_hard_tab_indent(handle: &mut Handle, alloc: Global, har
         editor.area.set_hard_tab_indent(hard);
         OK
     })
+}
+
+/// Sets whether the text area is read only. Then no call but `ta_set_lines` changes the text: every
+/// other call that edits, and an undo and a redo, changes nothing, neither what is yanked nor the
+/// selection, and returns false, 0 or nothing. But `ta_cut` does what `ta_copy` does, and returns
+/// whether a text was selected. Off at first.
+///
+/// Statuses: ok, empty handle.
+#[unsafe(no_mangle)]
+pub extern "C" fn ta_set_read_only(handle: &mut Handle, alloc: Global, read_only: bool) -> u32
+    ensures { Calls handle.old.stored.content result handle.new.stored.content
+        (λ a b. MakesSetting (call.SetReadOnly read_only) result a b) }
+{
+    on!(handle, alloc, editor => {
+        editor.area.set_read_only(read_only);
+        OK
+    })
+}
+
+/// Sets whether the text is kept in a single line, and returns whether it could be set: a text of
+/// several lines can't be. Then a line break that is typed, and `ta_duplicate_line`, do nothing,
+/// breaks of a text that is inserted or pasted become spaces, and `ta_set_lines` of several lines
+/// does nothing. Setting it forgets all edits. Off at first.
+///
+/// Statuses: ok (true), false, empty handle.
+#[unsafe(no_mangle)]
+pub extern "C" fn ta_set_single_line(handle: &mut Handle, alloc: Global, single_line: bool) -> u32
+    ensures { Calls handle.old.stored.content result handle.new.stored.content
+        (λ a b. MakesAttempt (call.SetSingleLine single_line) result a b) }
+{
+    on!(handle, alloc, editor => truth(editor.area.set_single_line(single_line)))
 }
 
 /// Hides the line numbers.
@@ -76,6 +107,28 @@ pub extern "C" fn ta_set_max_rows(handle: &mut Handle, alloc: Global, rows: u16)
         editor.area.set_max_rows(rows);
         OK
     })
+}
+
+/// Returns whether the text area is read only.
+///
+/// Statuses: ok (true), false, empty handle.
+#[unsafe(no_mangle)]
+pub extern "C" fn ta_read_only(handle: &mut Handle, alloc: Global) -> u32
+    ensures { Calls handle.old.stored.content result handle.new.stored.content
+        (λ a b. Answers (flag_of (result_of_call a.area call.ReadOnly)) result a b) }
+{
+    on!(handle, alloc, editor => truth(editor.area.read_only()))
+}
+
+/// Returns whether the text is kept in a single line.
+///
+/// Statuses: ok (true), false, empty handle.
+#[unsafe(no_mangle)]
+pub extern "C" fn ta_single_line(handle: &mut Handle, alloc: Global) -> u32
+    ensures { Calls handle.old.stored.content result handle.new.stored.content
+        (λ a b. Answers (flag_of (result_of_call a.area call.SingleLine)) result a b) }
+{
+    on!(handle, alloc, editor => truth(editor.area.single_line()))
 }
 
 /// Returns the distance of tab stops, in columns.

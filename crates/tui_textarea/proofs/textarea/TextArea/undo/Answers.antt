@@ -1,13 +1,8 @@
-use Rattle.std.proofs.Common.{◌≡◌, is_some, subst}
-use Rattle.std.specs.Result.{IfOk}
 use Rattle.textarea_history.specs.Log.{newest}
-use Rattle.textarea_document.specs.Outcomes.{after_undo}
-use Rattle.tui_textarea.specs.State.{State}
-use Rattle.tui_textarea.proofs.Lifted.{document_lifted}
+use Rattle.tui_textarea.proofs.Guarded.{none_found}
 use Rattle.tui_textarea.proofs.textarea.TextArea.undo.Goals as goal
 
-pub returns-clause-undone : goal.returns-clause-undone
-returns-clause-undone c = subst (λ (s : State). IfOk c.undo.result (λ found. found ≡ is_some (newest s.document.log))) c.self.view_is c.undo.ensures.undone
-
-pub returns-clause-ok : goal.returns-clause-ok
-returns-clause-ok c = document_lifted c.undo.result (λ (s : State). after_undo s.document) c.self.view_is c.undo.new.self c.undo.ensures.ok
+pub returns-clause-nothing : goal.returns-clause-nothing
+returns-clause-nothing c = λ none.
+    let now = c.args.self.now in
+    c.undo_unguarded.ensures.nothing (none_found now.settings.read_only c.read_only.result (newest now.document.log) c.read_only.ensures c.if-read_only.false none)
