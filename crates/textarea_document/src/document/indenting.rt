@@ -71,9 +71,9 @@ impl Document {
         Ok(true)
     }
 
-    // Returns what is replaced in each line, by the numbers of symbols before its start and before
-    // its end.
-    fn line_stretches(&self, outdents: bool) -> Result<Vec<(usize, usize)>, AllocError>
+    /// Returns what indenting, or outdenting if `outdents`, replaces in each line, by the numbers of
+    /// symbols before its start and before its end.
+    pub fn line_stretches(&self, outdents: bool) -> Result<Vec<(usize, usize)>, AllocError>
         ensures { IfOk result (λ stretches. stretches.items ≡ line_stretches self.now outdents) }
     {
         let lines = self.lines();

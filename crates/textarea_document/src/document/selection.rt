@@ -99,8 +99,8 @@ impl Document {
         Ok(())
     }
 
-    // Returns the rows of the first and the last of the selection's lines, or twice the cursor's.
-    pub(super) fn selected_rows(&self) -> (usize, usize)
+    /// Returns the rows of the first and the last of the selection's lines, or twice the cursor's.
+    pub fn selected_rows(&self) -> (usize, usize)
         ensures first { result.0 ≡ first_selected_row self.now }
         ensures last { result.1 ≡ last_selected_row self.now }
         ensures ordered { result.0 ≤ result.1 }
