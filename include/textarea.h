@@ -952,7 +952,7 @@ uint32_t ta_atomic_range_at_cursor(ta_handle_t *handle, uint32_t direction, ta_r
  * empty handle. */
 uint32_t ta_delete_atomic_range_at_cursor(ta_handle_t *handle, uint32_t direction, ta_range_t *range);
 
-/* Options of tabs, line numbers and heights. */
+/* Options of tabs, and the greatest number of characters. */
 
 /** Sets the distance of tab stops, in columns; at 0 a tab inserts nothing.
  *
@@ -1032,6 +1032,25 @@ uint32_t ta_max_rows(ta_handle_t *handle, uint16_t *max_rows);
  *
  * Statuses: ok, empty handle. */
 uint32_t ta_indent(ta_handle_t *handle, uint8_t *out, size_t out_len, size_t *needed);
+
+/** Sets the greatest number of characters of the text, a line break counted as one. Then what is
+ * typed does nothing if it doesn't fit, and an inserted text is cut at the end of the last of its
+ * grapheme clusters that fits. `ta_duplicate_line`, `ta_indent_lines` and `ta_replace_all` do
+ * nothing unless all that they insert fits. Undo, redo and `ta_set_lines` are never cut. There is
+ * none at first.
+ *
+ * Statuses: ok, empty handle. */
+uint32_t ta_set_max_chars(ta_handle_t *handle, size_t maximum);
+
+/** Sets no greatest number of characters.
+ *
+ * Statuses: ok, empty handle. */
+uint32_t ta_clear_max_chars(ta_handle_t *handle);
+
+/** Returns the greatest number of characters of the text.
+ *
+ * Statuses: ok, false (there is none), empty handle. */
+uint32_t ta_max_chars(ta_handle_t *handle, size_t *maximum);
 
 /* Wrapping, line numbers, alignment and measuring. */
 

@@ -180,6 +180,18 @@ static void single_line(void) {
     ta_free(&area);
 }
 
+static void max_chars(void) {
+    ta_handle_t area = area_of("one");
+    size_t most = 0;
+    CHECK(ta_max_chars(&area, &most) == TA_FALSE && ta_set_max_chars(&area, 5) == TA_OK);
+    CHECK(ta_max_chars(&area, &most) == TA_OK && most == 5);
+    CHECK(ta_insert_str(&area, TEXT("abc")) == TA_OK && has_lines(&area, "abone\n"));
+    CHECK(ta_insert_newline(&area) == TA_OK && ta_insert_tab(&area) == TA_FALSE);
+    CHECK(has_lines(&area, "abone\n") && ta_clear_max_chars(&area) == TA_OK);
+    CHECK(ta_insert_newline(&area) == TA_OK && has_lines(&area, "ab\none\n"));
+    ta_free(&area);
+}
+
 static void history(void) {
     ta_handle_t area = area_of("");
     size_t most = 0;
@@ -422,6 +434,7 @@ int main(void) {
     selection();
     read_only();
     single_line();
+    max_chars();
     history();
     search();
     ranges();

@@ -141,6 +141,8 @@ class Replay:
             area.wrap_mode = WrapMode[constant(words)]
         elif name == "set_mask_char":
             area.mask_char = unescaped(words)
+        elif name == "set_max_chars":
+            area.max_chars = None if words == "None" else int(words)
         elif name == "clear_mask_char":
             area.mask_char = None
         elif name == "line_numbers":

@@ -110,6 +110,20 @@ class Calls(unittest.TestCase):
         self.assertTrue(area.insert_pasted("a\r\nb") and not area.input(Input.char("\n")))
         self.assertEqual(area.text, "a bone")
 
+    def test_max_chars(self):
+        area = TextArea("one")
+        self.assertIsNone(area.max_chars)
+        area.max_chars = 6
+        self.assertTrue(area.insert_str("a\u0301e\u0301"))
+        self.assertEqual((area.text, area.max_chars), ("a\u0301one", 6))
+        area.insert_str("xy")
+        self.assertEqual(area.text, "a\u0301xone")
+        area.insert_char("y")
+        self.assertEqual(area.text, "a\u0301xone")
+        area.max_chars = None
+        area.insert_char("y")
+        self.assertEqual((area.text, area.max_chars), ("a\u0301xyone", None))
+
     def test_undo_groups(self):
         area = TextArea("one")
         self.assertFalse(area.undo_grouping)

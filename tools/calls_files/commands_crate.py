@@ -7,6 +7,7 @@ from calls_files.table import NOTE, TABLE, stop
 READINGS = {
     "char": ("character", "one_character", "K", "one character"),
     "usize": ("number", "size", "N", "a decimal number"),
+    "Option<usize>": ("number_or_none", "size_or_none", "N", "a decimal number, or `None`"),
     "u16": ("short_number", "short_number", "N", "a decimal number"),
     "u8": ("byte_number", "byte_number", "N", "a decimal number"),
     "bool": ("truth", "truth", "B", "`true` or `false`"),

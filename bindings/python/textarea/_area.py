@@ -310,6 +310,23 @@ class TextArea(Calls):
         self._call(lib.ta_measure, width, found)
         return Measure(found.content_rows, found.preferred_rows, found.min_rows, found.max_rows)
 
+    @property
+    def max_chars(self) -> Optional[int]:
+        """The greatest number of characters of the text, a line break counted as one; `None` for any
+        number, as at first. Then what is typed does nothing if it doesn't fit, and an inserted text is
+        cut at the end of the last of its grapheme clusters that fits. `duplicate_line`, `indent_lines`
+        and `replace_all` do nothing unless all that they insert fits. Undo, redo and `set_lines` are
+        never cut."""
+        found = self._numbers(ctypes.c_size_t, 1, lib.ta_max_chars)
+        return found and found[0]
+
+    @max_chars.setter
+    def max_chars(self, maximum: Optional[int]) -> None:
+        if maximum is None:
+            self._call(lib.ta_clear_max_chars)
+        else:
+            self._call(lib.ta_set_max_chars, maximum)
+
     # ---- Looks
 
     @property

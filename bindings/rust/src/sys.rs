@@ -365,6 +365,9 @@ unsafe extern "C" {
     pub fn ta_min_rows(handle: *mut Handle, min_rows: *mut u16) -> u32;
     pub fn ta_max_rows(handle: *mut Handle, max_rows: *mut u16) -> u32;
     pub fn ta_indent(handle: *mut Handle, out: *mut u8, out_len: usize, needed: *mut usize) -> u32;
+    pub fn ta_set_max_chars(handle: *mut Handle, maximum: usize) -> u32;
+    pub fn ta_clear_max_chars(handle: *mut Handle) -> u32;
+    pub fn ta_max_chars(handle: *mut Handle, maximum: *mut usize) -> u32;
     pub fn ta_set_wrap_mode(handle: *mut Handle, mode: u32) -> u32;
     pub fn ta_wrap_mode(handle: *mut Handle, mode: *mut u32) -> u32;
     pub fn ta_set_line_number_style(handle: *mut Handle, style: *const Style) -> u32;

@@ -146,6 +146,8 @@ pub enum Call<'a> {
     SetReadOnly(bool),
     /// `TextArea::set_single_line`
     SetSingleLine(bool),
+    /// `TextArea::set_max_chars`
+    SetMaxChars(Option<usize>),
     /// `TextArea::set_wrap_mode`
     SetWrapMode(WrapMode),
     /// `TextArea::set_line_number_style`
@@ -236,6 +238,8 @@ pub enum Call<'a> {
     ReadOnly,
     /// `TextArea::single_line`
     SingleLine,
+    /// `TextArea::max_chars`
+    MaxChars,
     /// `TextArea::tab_length`
     TabLength,
     /// `TextArea::hard_tab_indent`

@@ -7,7 +7,7 @@ use Rattle.textarea_editor.specs.declared.focus.Asked.{Asked}
 use Rattle.textarea_editor.specs.declared.focus.Asked.TheVariants as asks
 use Rattle.textarea_text.specs.Fragment.{fragment_symbols}
 use Rattle.tui_textarea.specs.Edits.{str_inserted}
-use Rattle.tui_textarea.specs.Guards.{admitted, unless_read_only}
+use Rattle.tui_textarea.specs.Guards.{admitted_over_selection, unless_read_only}
 use Rattle.tui_textarea.specs.Removals.{text_cleared}
 use Rattle.tui_textarea.specs.Selection.{all_selected}
 use Rattle.tui_textarea.specs.State.{State}
@@ -17,7 +17,7 @@ abbrev pub name_filled : State → Option (String Global) → State
 name_filled field None = unless_read_only field (text_cleared field)
 name_filled field (Some name) =
     let cleared = unless_read_only field (text_cleared field) in
-    unless_read_only cleared (str_inserted cleared (admitted cleared (fragment_symbols (first_line (chars (string_bytes name))))))
+    unless_read_only cleared (str_inserted cleared (admitted_over_selection cleared (fragment_symbols (first_line (chars (string_bytes name))))))
 
 -- the prompt's text is this one, all of it selected, so that typing replaces it
 abbrev pub text_recalled : State → Option (String Global) → State

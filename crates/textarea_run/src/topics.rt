@@ -260,6 +260,10 @@ pub(crate) fn options_call(area: &mut TextArea<'_>, call: OptionsCall) -> Result
         OptionsCall::SetSingleLine(single_line) => {
             Ok(Answer::Flag(area.set_single_line(single_line)))
         }
+        OptionsCall::SetMaxChars(maximum) => {
+            area.set_max_chars(maximum);
+            Ok(Answer::Done)
+        }
         OptionsCall::SetWrapMode(mode) => area.set_wrap_mode(mode).map(|()| Answer::Done),
         OptionsCall::SetLineNumberStyle(style) => area
             .set_line_number_style(style)
@@ -395,6 +399,7 @@ pub(crate) fn read_call(area: &mut TextArea<'_>, call: ReadCall) -> Result<Answe
         ReadCall::UndoGrouping => Ok(Answer::Flag(area.undo_grouping())),
         ReadCall::ReadOnly => Ok(Answer::Flag(area.read_only())),
         ReadCall::SingleLine => Ok(Answer::Flag(area.single_line())),
+        ReadCall::MaxChars => Ok(Answer::NumberIfAny(area.max_chars())),
         ReadCall::TabLength => Ok(Answer::Number(area.tab_length() as usize)),
         ReadCall::HardTabIndent => Ok(Answer::Flag(area.hard_tab_indent())),
         ReadCall::WrapMode => Ok(Answer::WrapMode(area.wrap_mode())),

@@ -57,6 +57,10 @@ number_below bound text =
 abbrev pub number : List ℕ → Option ℕ
 number = number_below (2 ^ 64)
 
+-- one of 64 bits, or none, which has a name
+abbrev pub number_or_none : List ℕ → Option (Option ℕ)
+number_or_none text = if bytes_eq text (codes "None") then Some None else option_map Some (number text)
+
 abbrev pub short_number : List ℕ → Option ℕ
 short_number = number_below (2 ^ 16)
 

@@ -2,7 +2,7 @@
 ghost use Rattle.std.specs.Char.{is_ascii_digit, is_ascii_hexdigit};
 ghost use Rattle.std.specs.List.{list_all};
 ghost use Rattle.std.specs.Prelude.{◌≡◌, ◌<◌, ◌≤◌, ◌++◌, ◌∷◌, [], length, map, option_copied, option_map, string_bytes, vec_len, IfOk, IfSome, MatchOption, OnOk, Some};
-ghost use Rattle.textarea_script_syntax.specs.Arguments.{IsReadAs, byte_number, mode_named, move_named, number, page, split_first, scroll_amounts, short_number, sides, sides_of_area, signed_number, truth, two_numbers, two_places, two_short_numbers, change_unit_named};
+ghost use Rattle.textarea_script_syntax.specs.Arguments.{IsReadAs, byte_number, mode_named, move_named, number, number_or_none, page, split_first, scroll_amounts, short_number, sides, sides_of_area, signed_number, truth, two_numbers, two_places, two_short_numbers, change_unit_named};
 ghost use Rattle.textarea_script_syntax.specs.FirstLine.{IsLinePushed};
 ghost use Rattle.textarea_script_syntax.specs.Escapes.{HasNoBackslash, character, character_numbered, escape, first_character, in_front, numbered_escape, unescaped, unescaped_lines};
 ghost use Rattle.textarea_script_syntax.specs.Inputs.{modifiers_named, input_named, key_without_arguments, key_named, key_with};
@@ -80,6 +80,16 @@ pub fn size(text: &str) -> Option<usize>
     ensures { result ≡ number text.now }
 {
     Some(number(text)? as usize)
+}
+
+// A number of 64 bits, as a size, or none, which `None` names.
+pub fn size_or_none(text: &str) -> Option<Option<usize>>
+    ensures { result ≡ number_or_none text.now }
+{
+    match text {
+        "None" => Some(None),
+        _ => Some(Some(size(text)?)),
+    }
 }
 
 // A number of 16 bits.

@@ -9,7 +9,7 @@ ghost use Rattle.textarea_script_syntax.specs.declared.commands.CommandContent.T
 
 use crate::arguments::{
     byte_number, change_unit_named, mode_named, move_named, one_character, scroll_amounts,
-    short_number, size, truth, two_numbers,
+    short_number, size, size_or_none, truth, two_numbers,
 };
 use textarea_calls::Call;
 
@@ -80,6 +80,7 @@ pub fn call_with_arguments(name: &str, arguments: &str) -> Option<Call<'static>>
         "set_hard_tab_indent" => Some(Call::SetHardTabIndent(truth(arguments)?)),
         "set_read_only" => Some(Call::SetReadOnly(truth(arguments)?)),
         "set_single_line" => Some(Call::SetSingleLine(truth(arguments)?)),
+        "set_max_chars" => Some(Call::SetMaxChars(size_or_none(arguments)?)),
         "set_wrap_mode" => Some(Call::SetWrapMode(mode_named(arguments)?)),
         "set_mask_char" => Some(Call::SetMaskChar(one_character(arguments)?)),
         "measure" => Some(Call::Measure(short_number(arguments)?)),

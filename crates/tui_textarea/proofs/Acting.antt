@@ -33,7 +33,7 @@ use Rattle.tui_textarea.specs.CallResults.{CallResult, PatternRejected}
 use Rattle.tui_textarea.specs.CallSplices.{OfSplicesOutOfMemory, splices_by, splices_of}
 use Rattle.tui_textarea.specs.Calls.{StateOutOfMemory, call_splices, rejected_ranges, state_after, unguarded_after, unguarded_splices}
 use Rattle.tui_textarea.specs.Drawing.{viewport_scrolled}
-use Rattle.tui_textarea.specs.Guards.{admitted, barred_after, is_barred}
+use Rattle.tui_textarea.specs.Guards.{admitted, admitted_between, admitted_for, admitted_over_selection, barred_after, is_barred}
 use Rattle.tui_textarea.specs.Input.{IsAfterAction, IsAnyOutOfMemory, asked_by, asked_without_shortcuts, call_of_action}
 use Rattle.tui_textarea.specs.LayoutCalls.{alignment_set, line_numbers_set, mode_set, tab_length_set}
 use Rattle.tui_textarea.specs.Outcomes.{IsAfterCall, IsAfterOutOfMemory, after_pattern}
@@ -131,11 +131,11 @@ module _ (By Own : Fact) (by : Reckoning By) (past : Past Own) where
   -- a call in a text area that isn't read only
   pub unguarded_by : (old : State) (made : Call) → IsSound old.document → ByCallSoundly old made (unguarded_splices old made) (unguarded_after old made)
   unguarded_by old (call.InsertChar c) h = given _ (char_by By by old c h)
-  unguarded_by old (call.InsertStr text) h = given _ (str_by By by old (admitted old (fragment_symbols (chars text.now))) h)
-  unguarded_by old (call.InsertPasted text) h = given _ (str_by By by old (admitted old (pasted_symbols (chars text.now))) h)
+  unguarded_by old (call.InsertStr text) h = given _ (str_by By by old (admitted_over_selection old (fragment_symbols (chars text.now))) h)
+  unguarded_by old (call.InsertPasted text) h = given _ (str_by By by old (admitted_over_selection old (pasted_symbols (chars text.now))) h)
   unguarded_by old call.InsertTab h = given _ (tab_by By by old h)
   unguarded_by old call.InsertNewline h = given _ (newline_by By by old h)
-  unguarded_by old call.Paste h = given _ (str_by By by old (admitted old old.yank) h)
+  unguarded_by old call.Paste h = given _ (str_by By by old (admitted_over_selection old old.yank) h)
   unguarded_by old call.DuplicateLine h =
       let document = old.document in
       let fits = selection_duplication_fits document h.cursor h.anchor in
@@ -147,8 +147,8 @@ module _ (By Own : Fact) (by : Reckoning By) (past : Past Own) where
   unguarded_by old call.OutdentLines h = given _ (lines_shifted_by By by old.document true (line_stretches old.document true) [] old.time h)
   unguarded_by old call.MoveLinesUp h = given _ (lines_up_by By by old.document old.time h)
   unguarded_by old call.MoveLinesDown h = given _ (lines_down_by By by old.document old.time h)
-  unguarded_by old (call.ReplaceRange from to text) h = given _ (range_by By by old.document from to (admitted old (fragment_symbols (chars text.now))) old.time h)
-  unguarded_by old (call.ReplaceMatch text) h = given _ (match_by By by old (match_at_cursor old) (admitted old (fragment_symbols (chars text.now))) h)
+  unguarded_by old (call.ReplaceRange from to text) h = given _ (range_by By by old.document from to (admitted_between old from to (fragment_symbols (chars text.now))) old.time h)
+  unguarded_by old (call.ReplaceMatch text) h = given _ (match_by By by old (match_at_cursor old) (admitted_for (match_at_cursor old) old (fragment_symbols (chars text.now))) h)
   unguarded_by old (call.ReplaceAll text) h = given _ (all_by By by old.document (replaceable old) (admitted old (fragment_symbols (chars text.now))) old.time h)
   unguarded_by old (call.DeleteStr count) h = given _ (unselected_by By by old (symbols_ahead_removed old count) _ h (ahead_by By by old count h))
   unguarded_by old call.DeleteNewline h = given _ (unselected_by By by old (break_before_removed old) _ h (break_by By by old.document old.time h))

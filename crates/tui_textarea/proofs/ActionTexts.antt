@@ -20,7 +20,7 @@ use Rattle.textarea_document.specs.Splices.{selected_splices}
 use Rattle.tui_textarea.specs.ActionTexts.{AllPass, CoversAsBefore, InsertsPassing, IsAfterAllTimed, IsAfterTimed, IsLeftByAction, covered_texts}
 use Rattle.tui_textarea.specs.CallSplices.{OfSplicesOutOfMemory, splices_by}
 use Rattle.tui_textarea.specs.Edits.{breaks_line}
-use Rattle.tui_textarea.specs.Guards.{admitted}
+use Rattle.tui_textarea.specs.Guards.{admitted_over_selection}
 use Rattle.tui_textarea.specs.Input.{IsAfterAction, IsInputOutOfMemory, asked_by, call_of_action}
 use Rattle.tui_textarea.specs.Splices.{str_splices}
 use Rattle.tui_textarea.specs.State.{State}
@@ -68,7 +68,7 @@ inserts_only : (test : Symbol → Bool) (state : State) (asked : Action) → Ins
 inserts_only test state (action.InsertChar c) h = only_unless (Passes test) _ _ (by_char test state c (breaks_line c) h)
 inserts_only test state action.InsertNewline h = only_unless (Passes test) _ _ (only_str (Passes test) state (Break ∷ []) (All-cons (Passes test) Break [] h (All-nil (Passes test))))
 inserts_only test state action.InsertTab h = only_unless (Passes test) _ _ (only_tab (Passes test) state h.0 h.1)
-inserts_only test state action.Paste h = only_unless (Passes test) _ _ (only_str (Passes test) state (admitted state state.yank) h)
+inserts_only test state action.Paste h = only_unless (Passes test) _ _ (only_str (Passes test) state (admitted_over_selection state state.yank) h)
 inserts_only test state action.DeleteChar h = only_unless (Passes test) _ _ (only_delete_char (Passes test) state)
 inserts_only test state action.DeleteNextChar h = only_unless (Passes test) _ _ (only_delete_next_char (Passes test) state)
 inserts_only test state action.DeleteLineByEnd h = only_unless (Passes test) _ _ (only_line_end (Passes test) state)

@@ -14,7 +14,8 @@ use Rattle.textarea_document.specs.Selection.{is_selected, selection_end, select
 use Rattle.textarea_document.specs.Splices.{after_splices, before_splices, break_splices, insertion_splices, range_splices_or, removal_splices, selected_splices}
 use Rattle.textarea_document.specs.Target.{word_end_after, word_start_before}
 use Rattle.tui_textarea.specs.Calls.{unguarded_splices}
-use Rattle.tui_textarea.specs.Edits.{spaces_to_stop}
+use Rattle.tui_textarea.specs.Edits.{fitting_spaces, spaces_to_stop}
+use Rattle.tui_textarea.specs.Fitting.{fitting_count}
 use Rattle.tui_textarea.specs.LayoutCalls.{tab_length}
 use Rattle.tui_textarea.specs.Removals.{cursor_line, in_line, is_at_line_end}
 use Rattle.tui_textarea.specs.Selection.{unselected}
@@ -108,12 +109,13 @@ only_selected_or P document other h = only-if P (is_selected document) (selected
 -- what each call inserts: a tab, as a character or as spaces; nothing
 pub only_tab : (P : Symbol → Type 0) (state : State) → P (Character 9) → P (Character 32) → InsertOnly P (unguarded_splices state call.InsertTab)
 only_tab P state tab space =
-    let spaces = replicate (spaces_to_stop (unselected state).document (tab_length state.document)) (Character 32) in
+    let left = unselected state in
+    let spaces = fitting_spaces left (tab_length state.document) in
     only-if P (tab_length state.document == 0) (str_splices state []) (cond state.settings.hard_tab_indent (str_splices state (Character 9 ∷ [])) (str_splices state spaces))
     (only_str P state [] (All-nil P))
     (only-if P state.settings.hard_tab_indent (str_splices state (Character 9 ∷ [])) (str_splices state spaces)
     (only_str P state (Character 9 ∷ []) (All-cons P (Character 9) [] tab (All-nil P)))
-    (only_str P state spaces (All-replicate P (spaces_to_stop (unselected state).document (tab_length state.document)) (Character 32) space)))
+    (only_str P state spaces (All-replicate P (fitting_count left.settings.max_chars (length left.document.text) (spaces_to_stop left.document (tab_length state.document))) (Character 32) space)))
 
 pub only_delete_char : (P : Symbol → Type 0) (state : State) → InsertOnly P (unguarded_splices state call.DeleteChar)
 only_delete_char P state = only_selected_or P state.document (before_splices state.document) (only_before P state.document)

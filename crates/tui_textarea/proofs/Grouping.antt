@@ -13,7 +13,8 @@ use Rattle.textarea_document.specs.Edits.{between_removed, nothing_inserted, spl
 use Rattle.textarea_document.specs.Selection.{is_selected, selected_removed, selection_end, selection_start}
 use Rattle.textarea_document.specs.Splices.{insertion_splices, selected_splices}
 use Rattle.textarea_document.specs.Outcomes.{unanchored}
-use Rattle.tui_textarea.specs.Edits.{breaks_line, spaces_to_stop, str_inserted, symbols_or_none_inserted, tab_inserted, tab_or_spaces_inserted}
+use Rattle.tui_textarea.specs.Fitting.{fitting_beside, fitting_count, fitting_selection}
+use Rattle.tui_textarea.specs.Edits.{breaks_line, fitting_spaces, spaces_to_stop, str_inserted, symbols_or_none_inserted, tab_inserted, tab_or_spaces_inserted}
 use Rattle.tui_textarea.specs.Grouping.{call_begun, call_ended, closed_if, opens_group, with_group}
 use Rattle.tui_textarea.specs.LayoutCalls.{tab_length}
 use Rattle.tui_textarea.specs.Selection.{IsInsertOutOfMemory, selection_cancelled, unselected}
@@ -49,6 +50,11 @@ str_beside state symbols =
     ap (λ (d : DocumentState). selected_splices state.document ++ insertion_splices d symbols) (unselected_beside state)
     ∙ ap (λ (s : List Splice). selected_splices state.document ++ s) (insertion_beside (unselected state).document (unselected (call_begun state)).document.log symbols)
 
+-- what fits in place of the selected text
+pub fitting_beside_group : (state : State) (symbols : List Symbol) → fitting_selection (call_begun state) symbols ≡ fitting_selection state symbols
+fitting_beside_group state symbols =
+    ap (λ (d : DocumentState). fitting_beside state.settings.max_chars (length d.text) symbols) (unselected_beside state)
+
 pub char_beside : (state : State) (c : ℕ) → char_splices (call_begun state) c ≡ char_splices state c
 char_beside state c =
     ap (λ (s : List Splice). cond (breaks_line c) s (str_splices (call_begun state) (Character c ∷ []))) (str_beside state (Break ∷ []))
@@ -56,13 +62,14 @@ char_beside state c =
 
 -- a tab as spaces before this position
 abbrev spaced : State → State → List Splice
-spaced state left = str_splices state (replicate (spaces_to_stop left.document (tab_length state.document)) (Character 32))
+spaced state left = str_splices state (fitting_spaces left (tab_length state.document))
 
 spaced_beside : (state : State) → spaced (call_begun state) (unselected (call_begun state)) ≡ spaced state (unselected state)
 spaced_beside state =
     let columns = tab_length state.document in
-    let symbols = replicate (spaces_to_stop (unselected (call_begun state)).document columns) (Character 32) in
-    str_beside state symbols ∙ ap (λ (d : DocumentState). str_splices state (replicate (spaces_to_stop d columns) (Character 32))) (unselected_beside state)
+    let symbols = fitting_spaces (unselected (call_begun state)) columns in
+    str_beside state symbols
+    ∙ ap (λ (d : DocumentState). str_splices state (replicate (fitting_count state.settings.max_chars (length d.text) (spaces_to_stop d columns)) (Character 32))) (unselected_beside state)
 
 pub tab_beside : (state : State) → tab_splices (call_begun state) ≡ tab_splices state
 tab_beside state =

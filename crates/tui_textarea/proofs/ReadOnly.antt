@@ -9,7 +9,7 @@ use Rattle.textarea_calls.specs.declared.call.Call.{Call}
 use Rattle.textarea_calls.specs.declared.call.Call.TheVariants as call
 use Rattle.tui_textarea.specs.CallResults.{CallResult}
 use Rattle.tui_textarea.specs.Calls.{state_after, unguarded_after}
-use Rattle.tui_textarea.specs.Guards.{SetsLines, barred_after, breaks, is_barred, is_editable}
+use Rattle.tui_textarea.specs.Guards.{SetsLines, barred_after, is_barred, is_left_out, is_editable}
 use Rattle.tui_textarea.specs.Input.{IsAfterAction, asked_by, asked_without_shortcuts}
 use Rattle.tui_textarea.specs.Outcomes.{IsAfterCall}
 use Rattle.tui_textarea.specs.State.{State}
@@ -29,7 +29,7 @@ both false b e f = absurd (false≢true e)
 
 barred : (state : State) (made : Call) → edits made ≡ true → IsReadOnly state → (¬ SetsLines made) → is_barred state made ≡ true
 barred state (call.SetLines lines cursor) e read_only others = absurd (others tt)
-barred state made e read_only others = or_right (breaks made && state.settings.single_line) (edits made && state.settings.read_only) (both (edits made) state.settings.read_only e read_only)
+barred state made e read_only others = or_right (is_left_out state made) (edits made && state.settings.read_only) (both (edits made) state.settings.read_only e read_only)
 
 barred_stays : (state : State) (made : Call) → SameText state (barred_after state made)
 barred_stays state call.Cut = copied state

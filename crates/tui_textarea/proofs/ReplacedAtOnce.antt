@@ -24,7 +24,7 @@ use Rattle.textarea_document.proofs.Orders.{index_before}
 use Rattle.textarea_document.proofs.Sounds.{sound_begun, sound_edited, start_is_place}
 use Rattle.textarea_document.proofs.StepLaw.{step_keeps}
 use Rattle.tui_textarea.specs.Calls.{call_splices, state_after, unguarded_after, unguarded_splices}
-use Rattle.tui_textarea.specs.Guards.{admitted, barred_after, is_barred}
+use Rattle.tui_textarea.specs.Guards.{admitted, admitted_between, admitted_for, barred_after, is_barred}
 use Rattle.tui_textarea.specs.GroupLaw.{IsReplacement, IsReplacementUndoneAtOnce, MakesFewEdits}
 use Rattle.tui_textarea.specs.Replacing.{end_of_match, is_empty_match, match_at_cursor, match_replaced_by, match_splices_by, replaceable, start_of_match, with_range_replaced}
 use Rattle.tui_textarea.specs.Search.{after_search, next_match}
@@ -215,10 +215,10 @@ module _ (state : State) (sound : IsSound state.document) (closed : is_open stat
 
   unguarded_call : (made : Call) → IsReplacement made → 0 < length (unguarded_splices state made) → length (unguarded_splices state made) ≤ state.document.log.maximum → Back state (unguarded_after state made)
   unguarded_call (call.ReplaceRange from to text) is some room =
-      let symbols = admitted state (fragment_symbols (chars text.now)) in
+      let symbols = admitted_between state from to (fragment_symbols (chars text.now)) in
       range_back from to symbols (with_range_replaced state from to symbols) (unguarded_stays_sound state (call.ReplaceRange from to text) sound tt) (record { text_is = refl; done = refl; marks = refl }) some room
   unguarded_call (call.ReplaceMatch text) is some room =
-      match_back (match_at_cursor state) (admitted state (fragment_symbols (chars text.now))) (unguarded_stays_sound state (call.ReplaceMatch text) sound tt) some room
+      match_back (match_at_cursor state) (admitted_for (match_at_cursor state) state (fragment_symbols (chars text.now))) (unguarded_stays_sound state (call.ReplaceMatch text) sound tt) some room
   unguarded_call (call.ReplaceAll text) is some room =
       all_back (replaceable state) (admitted state (fragment_symbols (chars text.now))) (unguarded_stays_sound state (call.ReplaceAll text) sound tt) some room
   unguarded_call made is some room = absurd is

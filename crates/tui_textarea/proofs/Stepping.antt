@@ -27,7 +27,7 @@ use Rattle.textarea_document.specs.Splices.{removal_splices, selected_splices}
 use Rattle.textarea_document.specs.Target.{word_end_after, word_start_before}
 use Rattle.textarea_document.proofs.Sounds.{sound_edited}
 use Rattle.textarea_document.proofs.StepLaw.{step_keeps}
-use Rattle.tui_textarea.specs.Edits.{breaks_line, char_inserted, char_or_break_inserted, line_broken, newline_inserted, spaces_to_stop, str_inserted, symbols_or_none_inserted}
+use Rattle.tui_textarea.specs.Edits.{breaks_line, char_inserted, char_or_break_inserted, fitting_spaces, line_broken, newline_inserted, str_inserted, symbols_or_none_inserted}
 use Rattle.tui_textarea.specs.Edits.{tab_inserted, tab_or_spaces_inserted, typed_character_inserted}
 use Rattle.tui_textarea.specs.Grouping.{call_begun, call_ended}
 use Rattle.tui_textarea.specs.Guards.{has_several_lines, made_single, single_line_set}
@@ -290,7 +290,7 @@ module _ (By : DocumentState → List Splice → DocumentState → Type 0) (by :
   tab_replaced : (state : State) → IsSound state.document → From state (tab_splices state) (tab_or_spaces_inserted (unselected state) (tab_length state.document))
   tab_replaced state h =
       let left = unselected state in
-      let spaces = replicate (spaces_to_stop left.document (tab_length state.document)) (Character 32) in
+      let spaces = fitting_spaces left (tab_length state.document) in
       by_both (From state) (tab_length state.document == 0) _ _ _ _
       (λ none. after_removal state (selection_cancelled left) _ h (λ sound. unanchored_by left.document sound))
       (λ some. by_both (From state) left.settings.hard_tab_indent _ _ _ _ (λ hard. typed_by state 9 h) (λ soft. str_replaced state spaces h))

@@ -28,8 +28,8 @@ use Rattle.textarea_text.specs.Fragment.{fragment_symbols, pasted_symbols}
 use Rattle.textarea_calls.specs.declared.call.Call.{Call}
 use Rattle.textarea_calls.specs.declared.call.Call.TheVariants as call
 use Rattle.tui_textarea.specs.Calls.{call_splices, state_after, unguarded_after, unguarded_splices}
-use Rattle.tui_textarea.specs.Guards.{admitted, barred_after, is_barred}
-use Rattle.tui_textarea.specs.Edits.{breaks_line, char_or_break_inserted, line_broken, spaces_to_stop, symbols_or_none_inserted, tab_or_spaces_inserted, typed_character_inserted}
+use Rattle.tui_textarea.specs.Guards.{admitted_over_selection, barred_after, is_barred}
+use Rattle.tui_textarea.specs.Edits.{breaks_line, char_or_break_inserted, fitting_spaces, line_broken, symbols_or_none_inserted, tab_or_spaces_inserted, typed_character_inserted}
 use Rattle.tui_textarea.specs.GroupLaw.{IsEditUndoneAtOnce, IsInsertion, IsUndoneAtOnce}
 use Rattle.tui_textarea.specs.Grouping.{call_begun, call_ended}
 use Rattle.tui_textarea.specs.LayoutCalls.{tab_length}
@@ -301,7 +301,7 @@ module _ (state : State) (starts : StartsGroup state) where
   tab_back : BackIf state (tab_splices (call_begun state)) (tab_or_spaces_inserted (unselected (call_begun state)) (tab_length state.document))
   tab_back =
       let start = unselected (call_begun state) in
-      let spaces = replicate (spaces_to_stop start.document (tab_length state.document)) (Character 32) in
+      let spaces = fitting_spaces start (tab_length state.document) in
       by_both (BackIf state) (tab_length state.document == 0) _ _ _ _
       (λ none some. removed_back state (call_ended state (selection_cancelled start)).document starts (some_selected (call_begun state) some) (record { text_is = refl; done = refl; marks = refl }))
       (λ tabs. by_both (BackIf state) state.settings.hard_tab_indent _ _ _ _ (λ hard. typed_back 9) (λ soft. str_back spaces))
@@ -309,12 +309,12 @@ module _ (state : State) (starts : StartsGroup state) where
   unguarded_call : (made : Call) → IsInsertion made → 0 < length (unguarded_splices state made) → Back state (unguarded_after state made).document
   unguarded_call (call.InsertChar c) is some = char_back c (subst (λ (s : List Splice). 0 < length s) (sym (char_beside state c)) some)
   unguarded_call (call.InsertStr text) is some =
-      let symbols = admitted state (fragment_symbols (chars text.now)) in str_back symbols (subst (λ (s : List Splice). 0 < length s) (sym (str_beside state symbols)) some)
+      let symbols = admitted_over_selection state (fragment_symbols (chars text.now)) in str_back symbols (subst (λ (s : List Splice). 0 < length s) (sym (str_beside state symbols)) some)
   unguarded_call (call.InsertPasted text) is some =
-      let symbols = admitted state (pasted_symbols (chars text.now)) in str_back symbols (subst (λ (s : List Splice). 0 < length s) (sym (str_beside state symbols)) some)
+      let symbols = admitted_over_selection state (pasted_symbols (chars text.now)) in str_back symbols (subst (λ (s : List Splice). 0 < length s) (sym (str_beside state symbols)) some)
   unguarded_call call.InsertTab is some = tab_back (subst (λ (s : List Splice). 0 < length s) (sym (tab_beside state)) some)
   unguarded_call call.InsertNewline is some = break_back (subst (λ (s : List Splice). 0 < length s) (sym (str_beside state (Break ∷ []))) some)
-  unguarded_call call.Paste is some = str_back (admitted state state.yank) (subst (λ (s : List Splice). 0 < length s) (sym (str_beside state (admitted state state.yank))) some)
+  unguarded_call call.Paste is some = str_back (admitted_over_selection state state.yank) (subst (λ (s : List Splice). 0 < length s) (sym (str_beside state (admitted_over_selection state state.yank))) some)
   unguarded_call made is some = absurd is
 
   by_call : (made : Call) → IsInsertion made → 0 < length (call_splices state made) → Back state (state_after state made).document

@@ -9,7 +9,7 @@ use Rattle.textarea_text.specs.Text.{Symbol, Break, Character, lines}
 use Rattle.textarea_calls.specs.declared.action.Action.{Action}
 use Rattle.textarea_calls.specs.declared.action.Action.TheVariants as action
 use Rattle.tui_textarea.specs.Edits.{breaks_line}
-use Rattle.tui_textarea.specs.Guards.{admitted}
+use Rattle.tui_textarea.specs.Guards.{admitted_over_selection}
 use Rattle.tui_textarea.specs.Input.{IsAfterAction, IsInputOutOfMemory, asked_by}
 use Rattle.tui_textarea.specs.State.{State}
 
@@ -30,7 +30,7 @@ abbrev pub InsertsPassing : (Symbol → Bool) → State → Action → Type 0
 InsertsPassing test state (action.InsertChar c) = (if breaks_line c then test Break else test (Character c)) ≡ true
 InsertsPassing test state action.InsertNewline = test Break ≡ true
 InsertsPassing test state action.InsertTab = (test (Character 9) ≡ true) × (test (Character 32) ≡ true)
-InsertsPassing test state action.Paste = AllPass test (admitted state state.yank)
+InsertsPassing test state action.Paste = AllPass test (admitted_over_selection state state.yank)
 InsertsPassing test state action.Undo = ⊥
 InsertsPassing test state action.Redo = ⊥
 InsertsPassing test state other = Unit {0}

@@ -24,7 +24,7 @@ use Rattle.textarea_document.specs.Splices.{after_splices, before_splices, break
 use Rattle.tui_textarea.specs.State.{State, with_change_log, with_changes_taken, with_document, with_other_lines}
 use Rattle.tui_textarea.specs.Splices.{ahead_splices, char_splices, clear_splices, line_end_splices, line_head_splices, selected_splices_or, str_splices, tab_splices, word_after_splices, word_before_splices}
 use Rattle.tui_textarea.specs.Edits.{inserts_tab, inserts_text, char_inserted, newline_inserted, tab_inserted, str_inserted}
-use Rattle.tui_textarea.specs.Guards.{admitted, barred_after, bars_break, bars_character, has_several_lines, is_barred, is_editable, removable_range, single_line_set}
+use Rattle.tui_textarea.specs.Guards.{admitted, admitted_between, admitted_for, admitted_over_selection, barred_after, bars_break, bars_character, bars_duplicate, bars_each, bars_indent, bars_tab, has_several_lines, is_barred, is_editable, removable_range, single_line_set}
 use Rattle.tui_textarea.specs.Grouping.{typing_ended, undo_group_begun, undo_group_ended}
 use Rattle.tui_textarea.specs.Removals.{break_before_removed, text_cleared, has_ahead, has_before, has_after, has_break_before, has_line_before, has_line_after, has_word_before}
 use Rattle.tui_textarea.specs.Removals.{has_word_after, line_end_removed, line_head_removed, removes_or, symbol_before_removed, symbol_after_removed, symbols_ahead_removed}
@@ -66,16 +66,16 @@ with_ranges_if (range ∷ rejected) state ranges = state
 -- the result of the call; of one that sets a pattern, if the pattern is accepted. The results of a
 -- measure, a hit test and an input are defined elsewhere
 abbrev pub result_of_call : State → Call → CallResult
-result_of_call state (call.InsertStr text) = Flag (is_editable state && inserts_text state (fragment_symbols (chars text.now)))
-result_of_call state (call.InsertPasted text) = Flag (is_editable state && inserts_text state (pasted_symbols (chars text.now)))
-result_of_call state call.IndentLines = Flag (is_editable state && shifts_lines state.document false)
+result_of_call state (call.InsertStr text) = Flag (is_editable state && inserts_text state (admitted_over_selection state (fragment_symbols (chars text.now))))
+result_of_call state (call.InsertPasted text) = Flag (is_editable state && inserts_text state (admitted_over_selection state (pasted_symbols (chars text.now))))
+result_of_call state call.IndentLines = Flag (not (bars_indent state) && shifts_lines state.document false)
 result_of_call state call.OutdentLines = Flag (is_editable state && shifts_lines state.document true)
 result_of_call state call.MoveLinesUp = Flag (is_editable state && has_line_above state.document)
 result_of_call state call.MoveLinesDown = Flag (is_editable state && has_line_below state.document)
-result_of_call state (call.ReplaceRange from to text) = Flag (is_editable state && replaces state.document.text from to (admitted state (fragment_symbols (chars text.now))))
+result_of_call state (call.ReplaceRange from to text) = Flag (is_editable state && replaces state.document.text from to (admitted_between state from to (fragment_symbols (chars text.now))))
 result_of_call state (call.ReplaceMatch text) = Flag (is_editable state && is_some (match_at_cursor state))
-result_of_call state (call.ReplaceAll text) = reported.Number (if state.settings.read_only then 0 else length (replaceable state))
-result_of_call state call.InsertTab = Flag (is_editable state && inserts_tab state)
+result_of_call state (call.ReplaceAll text) = reported.Number (if bars_each state text then 0 else length (replaceable state))
+result_of_call state call.InsertTab = Flag (not (bars_tab state) && inserts_tab state)
 result_of_call state (call.DeleteStr count) = Flag (is_editable state && removes_or state (has_ahead state count))
 result_of_call state call.DeleteNewline = Flag (is_editable state && removes_or state (has_break_before state))
 result_of_call state call.DeleteChar = Flag (is_editable state && removes_or state (has_before state))
@@ -86,7 +86,7 @@ result_of_call state call.DeleteWord = Flag (is_editable state && removes_or sta
 result_of_call state call.DeleteNextWord = Flag (is_editable state && removes_or state (has_word_after state))
 result_of_call state call.Clear = Flag (is_editable state && has_symbols state.document.text)
 result_of_call state call.Cut = Flag (is_selected state.document)
-result_of_call state call.Paste = Flag (is_editable state && has_symbols state.yank)
+result_of_call state call.Paste = Flag (is_editable state && has_symbols (admitted_over_selection state state.yank))
 result_of_call state call.Undo = Flag (is_editable state && is_some (newest state.document.log))
 result_of_call state call.Redo = Flag (is_editable state && is_some (next state.document.log))
 result_of_call state call.TakeChanges = reported.Changes state.document.changes.made
@@ -125,6 +125,7 @@ result_of_call state call.UndoGrouping = Flag state.settings.undo_grouping
 result_of_call state call.ReadOnly = Flag state.settings.read_only
 result_of_call state (call.SetSingleLine single_line) = Flag (not (single_line && has_several_lines state))
 result_of_call state call.SingleLine = Flag state.settings.single_line
+result_of_call state call.MaxChars = reported.NumberIfAny state.settings.max_chars
 result_of_call state call.WrapMode = reported.WrapMode state.document.layout.settings.mode
 result_of_call state call.LineNumberStyle = reported.StyleIfVisible (number_style state)
 result_of_call state call.PlaceholderStyle = reported.StyleIfVisible (style_with_lines state.surround.placeholder.lines state.surround.placeholder.style)
@@ -142,8 +143,8 @@ with_lines state lines cursor =
 -- the pattern is accepted. The states after moves, scrolls, inputs and drawings are defined elsewhere
 abbrev pub unguarded_after : State → Call → State
 unguarded_after state (call.InsertChar c) = char_inserted state c
-unguarded_after state (call.InsertStr text) = str_inserted state (admitted state (fragment_symbols (chars text.now)))
-unguarded_after state (call.InsertPasted text) = str_inserted state (admitted state (pasted_symbols (chars text.now)))
+unguarded_after state (call.InsertStr text) = str_inserted state (admitted_over_selection state (fragment_symbols (chars text.now)))
+unguarded_after state (call.InsertPasted text) = str_inserted state (admitted_over_selection state (pasted_symbols (chars text.now)))
 unguarded_after state call.InsertTab = tab_inserted state
 unguarded_after state call.InsertNewline = newline_inserted state
 unguarded_after state call.DuplicateLine = with_document state (lines_duplicated state.document state.time)
@@ -151,8 +152,8 @@ unguarded_after state call.IndentLines = with_document state (lines_indented sta
 unguarded_after state call.OutdentLines = with_document state (lines_outdented state.document state.time)
 unguarded_after state call.MoveLinesUp = with_document state (lines_moved_up state.document state.time)
 unguarded_after state call.MoveLinesDown = with_document state (lines_moved_down state.document state.time)
-unguarded_after state (call.ReplaceRange from to text) = with_range_replaced state from to (admitted state (fragment_symbols (chars text.now)))
-unguarded_after state (call.ReplaceMatch text) = match_replaced state (admitted state (fragment_symbols (chars text.now)))
+unguarded_after state (call.ReplaceRange from to text) = with_range_replaced state from to (admitted_between state from to (fragment_symbols (chars text.now)))
+unguarded_after state (call.ReplaceMatch text) = match_replaced state (admitted_for (match_at_cursor state) state (fragment_symbols (chars text.now)))
 unguarded_after state (call.ReplaceAll text) = matches_replaced state (admitted state (fragment_symbols (chars text.now)))
 unguarded_after state (call.DeleteStr count) = unselected_or state (symbols_ahead_removed state count)
 unguarded_after state call.DeleteNewline = unselected_or state (break_before_removed state)
@@ -165,7 +166,7 @@ unguarded_after state call.DeleteNextWord = unselected_or state (word_after_remo
 unguarded_after state call.Clear = text_cleared state
 unguarded_after state call.Cut = selection_cut state
 unguarded_after state call.Copy = selection_copied state
-unguarded_after state call.Paste = str_inserted state (admitted state state.yank)
+unguarded_after state call.Paste = str_inserted state (admitted_over_selection state state.yank)
 unguarded_after state call.Undo = with_document state (after_undo state.document)
 unguarded_after state call.Redo = with_document state (after_redo state.document)
 unguarded_after state (call.SetChangeLog unit) = with_change_log state unit
@@ -204,6 +205,7 @@ unguarded_after state (call.SetUndoCoalescing joins) =
 unguarded_after state (call.SetUndoGrouping groups) = record state { settings = record state.settings { undo_grouping = groups } }
 unguarded_after state (call.SetReadOnly read_only) = record state { settings = record state.settings { read_only = read_only } }
 unguarded_after state (call.SetSingleLine single_line) = single_line_set state single_line
+unguarded_after state (call.SetMaxChars maximum) = record state { settings = record state.settings { max_chars = maximum } }
 unguarded_after state call.BeginUndoGroup = undo_group_begun state
 unguarded_after state call.EndUndoGroup = undo_group_ended state
 unguarded_after state call.EndRun = typing_ended state
@@ -237,18 +239,18 @@ state_after state made = if is_barred state made then barred_after state made el
 -- has none. Those of inputs are defined elsewhere.
 abbrev pub unguarded_splices : State → Call → List Splice
 unguarded_splices state (call.InsertChar c) = char_splices state c
-unguarded_splices state (call.InsertStr text) = str_splices state (admitted state (fragment_symbols (chars text.now)))
-unguarded_splices state (call.InsertPasted text) = str_splices state (admitted state (pasted_symbols (chars text.now)))
+unguarded_splices state (call.InsertStr text) = str_splices state (admitted_over_selection state (fragment_symbols (chars text.now)))
+unguarded_splices state (call.InsertPasted text) = str_splices state (admitted_over_selection state (pasted_symbols (chars text.now)))
 unguarded_splices state call.InsertTab = tab_splices state
 unguarded_splices state call.InsertNewline = str_splices state (Break ∷ [])
-unguarded_splices state call.Paste = str_splices state (admitted state state.yank)
+unguarded_splices state call.Paste = str_splices state (admitted_over_selection state state.yank)
 unguarded_splices state call.DuplicateLine = selection_duplication state.document ∷ []
 unguarded_splices state call.IndentLines = indent_splices state.document state.settings.hard_tab_indent state.time
 unguarded_splices state call.OutdentLines = outdent_splices state.document state.time
 unguarded_splices state call.MoveLinesUp = move_up_splices state.document state.time
 unguarded_splices state call.MoveLinesDown = move_down_splices state.document state.time
-unguarded_splices state (call.ReplaceRange from to text) = range_splices state.document from to (admitted state (fragment_symbols (chars text.now))) state.time
-unguarded_splices state (call.ReplaceMatch text) = match_splices state (admitted state (fragment_symbols (chars text.now)))
+unguarded_splices state (call.ReplaceRange from to text) = range_splices state.document from to (admitted_between state from to (fragment_symbols (chars text.now))) state.time
+unguarded_splices state (call.ReplaceMatch text) = match_splices state (admitted_for (match_at_cursor state) state (fragment_symbols (chars text.now)))
 unguarded_splices state (call.ReplaceAll text) = matches_splices state (admitted state (fragment_symbols (chars text.now)))
 unguarded_splices state (call.DeleteStr count) = selected_splices_or state.document (ahead_splices state.document count)
 unguarded_splices state call.DeleteNewline = selected_splices_or state.document (break_splices state.document)
@@ -277,9 +279,9 @@ abbrev pub NeedsMemory : State → Call → Type 0
 NeedsMemory state (call.InsertChar c) = bars_character state c ≢ true
 NeedsMemory state (call.InsertStr text) = (is_editable state && inserts_text state (fragment_symbols (chars text.now))) ≢ false
 NeedsMemory state (call.InsertPasted text) = (is_editable state && inserts_text state (pasted_symbols (chars text.now))) ≢ false
-NeedsMemory state call.InsertTab = (is_editable state && inserts_tab state) ≢ false
+NeedsMemory state call.InsertTab = (not (bars_tab state) && inserts_tab state) ≢ false
 NeedsMemory state call.InsertNewline = bars_break state ≢ true
-NeedsMemory state call.DuplicateLine = bars_break state ≢ true
+NeedsMemory state call.DuplicateLine = bars_duplicate state ≢ true
 NeedsMemory state call.IndentLines = is_editable state ≢ false
 NeedsMemory state call.OutdentLines = is_editable state ≢ false
 NeedsMemory state call.MoveLinesUp = (is_editable state && has_line_above state.document) ≢ false

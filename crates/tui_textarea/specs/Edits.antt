@@ -1,11 +1,12 @@
 -- The states after insertions, which first remove the selected text, as its own edit; with grouping
 -- on, both edits are in one group.
-use Rattle.std.specs.Prelude.{ℕ, ◌-◌, ◌%◌, ◌==◌, ◌||◌, Bool, not, List, [], take, replicate, slice_index_or, if◌then◌else◌}
+use Rattle.std.specs.Prelude.{ℕ, ◌-◌, ◌%◌, ◌==◌, ◌||◌, Bool, not, List, [], length, take, replicate, slice_index_or, if◌then◌else◌}
 use Rattle.textarea_text.specs.Text.{Symbol, Character, lines}
 use Rattle.textarea_document.specs.DocumentState.{DocumentState}
 use Rattle.textarea_document.specs.Edits.{insertion_place, has_symbols, break_inserted, character_inserted, symbols_inserted}
 use Rattle.textarea_document.specs.Selection.{is_selected}
 use Rattle.textarea_text.specs.Tab.{width_of}
+use Rattle.tui_textarea.specs.Fitting.{fitting_count}
 use Rattle.tui_textarea.specs.Grouping.{call_begun, call_ended}
 use Rattle.tui_textarea.specs.State.{State, with_document}
 use Rattle.tui_textarea.specs.Selection.{selection_cancelled, unselected}
@@ -40,12 +41,17 @@ before_insertion document = take (insertion_place document).1 (slice_index_or (l
 abbrev pub spaces_to_stop : DocumentState → ℕ → ℕ
 spaces_to_stop document tab_length = tab_length - width_of (before_insertion document) % tab_length
 
+-- those of them that fit
+abbrev pub fitting_spaces : State → ℕ → List Symbol
+fitting_spaces state tab_length =
+    replicate (fitting_count state.settings.max_chars (length state.document.text) (spaces_to_stop state.document tab_length)) (Character 32)
+
 -- a tab of this length is inserted: nothing at tab length 0, otherwise a tab character, typed, or
 -- the spaces to the next tab stop
 abbrev pub tab_or_spaces_inserted : State → ℕ → State
 tab_or_spaces_inserted state tab_length =
     if tab_length == 0 then selection_cancelled state
-    else (if state.settings.hard_tab_indent then typed_character_inserted state 9 else symbols_or_none_inserted state (replicate (spaces_to_stop state.document tab_length) (Character 32)))
+    else (if state.settings.hard_tab_indent then typed_character_inserted state 9 else symbols_or_none_inserted state (fitting_spaces state tab_length))
 
 -- ---- the calls
 

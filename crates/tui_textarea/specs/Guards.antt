@@ -1,6 +1,8 @@
 -- What the guards of a text area leave out of its calls: all edits while it is read only, and line
--- breaks while it has a single line.
-use Rattle.std.specs.Prelude.{◌&&◌, ◌||◌, ℕ, Bool, List, Option, None, length, map, nat_lt, not, true, false, if◌then◌else◌}
+-- breaks while it has a single line, and what doesn't fit while it has a greatest number of symbols.
+use Rattle.std.specs.Prelude.{◌&&◌, ◌||◌, ℕ, Bool, List, Option, None, Some, length, map, nat_lt, not, true, false, if◌then◌else◌}
+use Rattle.std.specs.Borrow.{Bor}
+use Rattle.std.specs.Str.{chars}
 use Rattle.textarea_calls.specs.Edits.{edits}
 use Rattle.textarea_calls.specs.declared.call.Call.{Call}
 use Rattle.textarea_calls.specs.declared.call.Call.TheVariants as call
@@ -9,9 +11,13 @@ use Rattle.textarea_data.specs.declared.range.AtomicRange.{AtomicRange}
 use Rattle.textarea_document.specs.DocumentState.{lines_replaced}
 use Rattle.textarea_document.specs.Edits.{range_at_cursor}
 use Rattle.textarea_history.specs.Log.{empty_log}
+use Rattle.textarea_search.specs.declared.search.text_matches.TextMatch.{TextMatch}
+use Rattle.textarea_text.specs.Fragment.{fragment_symbols}
 use Rattle.textarea_text.specs.Place.{Place}
 use Rattle.textarea_text.specs.Text.{Symbol, Break, Character, lines, lines_of}
 use Rattle.tui_textarea.specs.Edits.{breaks_line}
+use Rattle.tui_textarea.specs.Fitting.{fitting_between, fitting_selection, fits_duplicate, fits_each, fits_indent, has_no_room}
+use Rattle.tui_textarea.specs.Replacing.{end_of_match, replaceable, start_of_match}
 use Rattle.tui_textarea.specs.Selection.{selection_copied}
 use Rattle.tui_textarea.specs.State.{State, with_other_lines}
 
@@ -30,13 +36,6 @@ removable_range state direction = if state.settings.read_only then None else ran
 
 -- ---- a single line
 
--- a line break, and a typed character, is left out
-abbrev pub bars_break : State → Bool
-bars_break state = state.settings.single_line || state.settings.read_only
-
-abbrev pub bars_character : State → ℕ → Bool
-bars_character state c = (breaks_line c && state.settings.single_line) || state.settings.read_only
-
 -- other lines are left out: there is more than one
 abbrev pub bars_lines : State → List (List ℕ) → Bool
 bars_lines state rows = state.settings.single_line && nat_lt 1 (length rows)
@@ -53,6 +52,18 @@ spaced (Character c) = Character c
 
 abbrev pub admitted : State → List Symbol → List Symbol
 admitted state symbols = if state.settings.single_line then map spaced symbols else symbols
+
+-- and of that what fits in place of the selected text, of that between two positions, or of the match
+-- at the cursor, if there is one
+abbrev pub admitted_over_selection : State → List Symbol → List Symbol
+admitted_over_selection state symbols = fitting_selection state (admitted state symbols)
+
+abbrev pub admitted_between : State → Place → Place → List Symbol → List Symbol
+admitted_between state from to symbols = fitting_between state from to (admitted state symbols)
+
+abbrev pub admitted_for : Option TextMatch → State → List Symbol → List Symbol
+admitted_for None state symbols = symbols
+admitted_for (Some found) state symbols = admitted_between state (start_of_match found) (end_of_match found) symbols
 
 -- a text of several lines can't be a single line
 abbrev pub has_several_lines : State → Bool
@@ -74,18 +85,41 @@ abbrev pub SetsLines : Call → Type 0
 SetsLines (call.SetLines lines cursor) = Unit {0}
 SetsLines made = ⊥
 
--- the call makes another line, whatever is selected
-abbrev pub breaks : Call → Bool
-breaks (call.InsertChar c) = breaks_line c
-breaks call.InsertNewline = true
-breaks call.DuplicateLine = true
-breaks made = false
+-- The call is left out of a text that can be edited: it would break a single line, or what it types
+-- doesn't fit, or what it inserts at several positions, or as lines, doesn't fit as a whole.
+abbrev pub is_left_out : State → Call → Bool
+is_left_out state (call.InsertChar c) = (breaks_line c && state.settings.single_line) || has_no_room state
+is_left_out state call.InsertNewline = state.settings.single_line || has_no_room state
+is_left_out state call.InsertTab = has_no_room state
+is_left_out state call.DuplicateLine = state.settings.single_line || not (fits_duplicate state)
+is_left_out state call.IndentLines = not (fits_indent state)
+is_left_out state (call.ReplaceAll text) = not (fits_each state (replaceable state) (admitted state (fragment_symbols (chars text.now))))
+is_left_out state made = false
 
--- The call is left out: it would break a single line, or set several lines there, or it edits a text
--- that is read only, where lines may be set.
+-- The call is left out, or it would set several lines in a single one, or it edits a text that is read
+-- only, where lines may be set.
 abbrev pub is_barred : State → Call → Bool
 is_barred state (call.SetLines lines cursor) = bars_lines state (lines_of lines.now)
-is_barred state made = (breaks made && state.settings.single_line) || (edits made && state.settings.read_only)
+is_barred state made = is_left_out state made || (edits made && state.settings.read_only)
+
+-- the same of each call that may be left out for more than one reason
+abbrev pub bars_character : State → ℕ → Bool
+bars_character state c = is_barred state (call.InsertChar c)
+
+abbrev pub bars_break : State → Bool
+bars_break state = is_barred state call.InsertNewline
+
+abbrev pub bars_tab : State → Bool
+bars_tab state = is_barred state call.InsertTab
+
+abbrev pub bars_duplicate : State → Bool
+bars_duplicate state = is_barred state call.DuplicateLine
+
+abbrev pub bars_indent : State → Bool
+bars_indent state = is_barred state call.IndentLines
+
+abbrev pub bars_each : State → Bor (List ℕ) → Bool
+bars_each state text = is_barred state (call.ReplaceAll text)
 
 -- the state after such a call: `cut` copies, and any other changes nothing
 abbrev pub barred_after : State → Call → State

@@ -10,6 +10,7 @@ pub mod State
 pub mod Drawing
 pub mod Edits
 pub mod Grouping
+pub mod Fitting
 pub mod Guards
 pub mod GroupLaw
 pub mod Removals

@@ -1,5 +1,5 @@
 -- The splices of each edit, as functions of the state.
-use Rattle.std.specs.Prelude.{ℕ, ◌==◌, List, [], ◌∷◌, ◌++◌, length, nat_lt, replicate, if◌then◌else◌}
+use Rattle.std.specs.Prelude.{ℕ, ◌==◌, List, [], ◌∷◌, ◌++◌, length, nat_lt, if◌then◌else◌}
 use Rattle.textarea_text.specs.Place.{place_of}
 use Rattle.textarea_text.specs.Splice.{Splice}
 use Rattle.textarea_text.specs.Text.{Symbol, Break, Character}
@@ -8,7 +8,7 @@ use Rattle.textarea_document.specs.Selection.{is_selected}
 use Rattle.textarea_document.specs.Splices.{after_splices, break_splices, insertion_splices, range_splices_or, removal_splices, selected_splices}
 use Rattle.textarea_document.specs.DocumentState.{DocumentState}
 use Rattle.textarea_document.specs.Target.{word_end_after, word_start_before}
-use Rattle.tui_textarea.specs.Edits.{breaks_line, spaces_to_stop}
+use Rattle.tui_textarea.specs.Edits.{breaks_line, fitting_spaces}
 use Rattle.tui_textarea.specs.LayoutCalls.{tab_length}
 use Rattle.tui_textarea.specs.Removals.{cursor_line, in_line, index_ahead, is_at_line_end}
 use Rattle.tui_textarea.specs.Selection.{unselected}
@@ -31,7 +31,7 @@ abbrev pub tab_splices : State → List Splice
 tab_splices state =
     if tab_length state.document == 0 then str_splices state []
     else (if state.settings.hard_tab_indent then str_splices state (Character 9 ∷ [])
-    else str_splices state (replicate (spaces_to_stop (unselected state).document (tab_length state.document)) (Character 32)))
+    else str_splices state (fitting_spaces (unselected state) (tab_length state.document)))
 
 -- ---- removals
 

@@ -27,7 +27,7 @@ pub record State : Type 0 where
 -- the initial settings: tabs as spaces, typed edits do not join, no edits are grouped, and the text
 -- can be edited, and have several lines
 abbrev pub default_settings : Settings
-default_settings = record { hard_tab_indent = false; undo_coalescing = false; undo_grouping = false; read_only = false; single_line = false }
+default_settings = record { hard_tab_indent = false; undo_coalescing = false; undo_grouping = false; read_only = false; single_line = false; max_chars = None }
 
 -- the initial layout: one visual row per line, tab stops at each fourth column, no line numbers, no
 -- area drawn yet

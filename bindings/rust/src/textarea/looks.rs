@@ -37,6 +37,37 @@ impl TextArea<'_> {
         if is_set { char::from_u32(mask) } else { None }
     }
 
+    /// Sets the greatest number of characters of the text, a line break counted as one, or none for
+    /// `None`, as at first. Then what is typed does nothing if it doesn't fit, and an inserted text is
+    /// cut at the end of the last of its grapheme clusters that fits. `duplicate_line`,
+    /// `indent_lines` and `replace_all` do nothing unless all that they insert fits. Undo, redo and
+    /// `set_lines` are never cut.
+    ///
+    /// ```
+    /// use tui_textarea::TextArea;
+    ///
+    /// let mut area = TextArea::from(["one"]);
+    /// area.set_max_chars(Some(5));
+    /// area.insert_str("abc");
+    /// assert_eq!(area.lines(), ["abone"]);
+    /// assert_eq!(area.max_chars(), Some(5));
+    /// ```
+    pub fn set_max_chars(&mut self, maximum: Option<usize>) {
+        self.core.is(|h| unsafe {
+            match maximum {
+                Some(maximum) => sys::ta_set_max_chars(h, maximum),
+                None => sys::ta_clear_max_chars(h),
+            }
+        });
+    }
+
+    /// Returns the greatest number of characters of the text; `None` for any number.
+    pub fn max_chars(&self) -> Option<usize> {
+        let mut maximum = 0;
+        let is_set = self.core.is(|h| unsafe { sys::ta_max_chars(h, &mut maximum) });
+        is_set.then_some(maximum)
+    }
+
     /// Sets whether the cell at the cursor has its own style, or is drawn as any other because the
     /// terminal's own cursor is there.
     pub fn set_cursor_render_mode(&mut self, mode: CursorRenderMode) {

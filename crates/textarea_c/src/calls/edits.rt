@@ -1,11 +1,11 @@
 //! Insertions. Each first removes the selected text, as its own edit, and then moves a cursor that
 //! is strictly inside an atomic range to the range's end.
-ghost use Rattle.std.specs.Prelude.{◌&&◌, if◌then◌else◌};
+ghost use Rattle.std.specs.Prelude.{◌&&◌, not, if◌then◌else◌};
 ghost use Rattle.std.specs.Str.{chars};
 ghost use Rattle.textarea_document.specs.Edits.{has_symbols};
 ghost use Rattle.textarea_text.specs.Fragment.{fragment_symbols, pasted_symbols};
 ghost use Rattle.tui_textarea.specs.Edits.{inserts_tab, inserts_text, newline_inserted, str_inserted, tab_inserted};
-ghost use Rattle.tui_textarea.specs.Guards.{admitted, bars_break, is_editable, unless_read_only};
+ghost use Rattle.tui_textarea.specs.Guards.{admitted_over_selection, bars_break, bars_tab, is_editable, unless_read_only};
 ghost use Rattle.textarea_c.specs.Calls.{Calls, Given, Inserts, InsertsCharacter, TriesToInsert};
 ghost use Rattle.textarea_c_data.specs.Inputs.{character_of_number};
 ghost use Rattle.textarea_c_data.specs.Texts.{text_in};
@@ -60,10 +60,11 @@ pub extern "C" fn ta_insert_newline(handle: &mut Handle, alloc: Global) -> u32
 pub extern "C" fn ta_insert_str(handle: &mut Handle, alloc: Global, text: &[u8]) -> u32
     ensures { Calls handle.old.stored.content result handle.new.stored.content
         (λ a b. Given (text_in text.now) (λ t. TriesToInsert
-        (is_editable a.area && inserts_text a.area (fragment_symbols (chars t)))
+        (is_editable a.area && inserts_text a.area
+        (admitted_over_selection a.area (fragment_symbols (chars t))))
         (is_editable a.area && inserts_text a.area (fragment_symbols (chars t)))
         (unless_read_only a.area (str_inserted a.area
-        (admitted a.area (fragment_symbols (chars t)))))) result a b) }
+        (admitted_over_selection a.area (fragment_symbols (chars t)))))) result a b) }
 {
     on!(handle, alloc, editor => match text_of(text) {
         Some(text) => flag(editor.area.insert_str(text)),
@@ -80,10 +81,11 @@ pub extern "C" fn ta_insert_str(handle: &mut Handle, alloc: Global, text: &[u8])
 pub extern "C" fn ta_insert_pasted(handle: &mut Handle, alloc: Global, text: &[u8]) -> u32
     ensures { Calls handle.old.stored.content result handle.new.stored.content
         (λ a b. Given (text_in text.now) (λ t. TriesToInsert
-        (is_editable a.area && inserts_text a.area (pasted_symbols (chars t)))
+        (is_editable a.area && inserts_text a.area
+        (admitted_over_selection a.area (pasted_symbols (chars t))))
         (is_editable a.area && inserts_text a.area (pasted_symbols (chars t)))
         (unless_read_only a.area (str_inserted a.area
-        (admitted a.area (pasted_symbols (chars t)))))) result a b) }
+        (admitted_over_selection a.area (pasted_symbols (chars t)))))) result a b) }
 {
     on!(handle, alloc, editor => match text_of(text) {
         Some(text) => flag(editor.area.insert_pasted(text)),
@@ -100,9 +102,9 @@ pub extern "C" fn ta_insert_pasted(handle: &mut Handle, alloc: Global, text: &[u
 #[unsafe(no_mangle)]
 pub extern "C" fn ta_insert_tab(handle: &mut Handle, alloc: Global) -> u32
     ensures { Calls handle.old.stored.content result handle.new.stored.content
-        (λ a b. TriesToInsert (is_editable a.area && inserts_tab a.area)
-        (is_editable a.area && inserts_tab a.area)
-        (unless_read_only a.area (tab_inserted a.area)) result a b) }
+        (λ a b. TriesToInsert (not (bars_tab a.area) && inserts_tab a.area)
+        (not (bars_tab a.area) && inserts_tab a.area)
+        (if bars_tab a.area then a.area else tab_inserted a.area) result a b) }
 {
     on!(handle, alloc, editor => flag(editor.area.insert_tab()))
 }
@@ -114,9 +116,11 @@ pub extern "C" fn ta_insert_tab(handle: &mut Handle, alloc: Global) -> u32
 #[unsafe(no_mangle)]
 pub extern "C" fn ta_paste(handle: &mut Handle, alloc: Global) -> u32
     ensures { Calls handle.old.stored.content result handle.new.stored.content
-        (λ a b. TriesToInsert (is_editable a.area && has_symbols a.area.yank)
+        (λ a b. TriesToInsert
+        (is_editable a.area && has_symbols (admitted_over_selection a.area a.area.yank))
         (is_editable a.area && inserts_text a.area a.area.yank)
-        (unless_read_only a.area (str_inserted a.area (admitted a.area a.area.yank))) result a b) }
+        (unless_read_only a.area (str_inserted a.area
+        (admitted_over_selection a.area a.area.yank))) result a b) }
 {
     on!(handle, alloc, editor => flag(editor.area.paste()))
 }

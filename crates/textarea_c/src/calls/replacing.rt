@@ -4,7 +4,7 @@ ghost use Rattle.std.specs.Str.{chars};
 ghost use Rattle.textarea_document.specs.Indenting.{lines_indented, lines_outdented, shifts_lines};
 ghost use Rattle.textarea_document.specs.Replacing.{replaces, stretch_symbols};
 ghost use Rattle.textarea_text.specs.Fragment.{fragment_symbols, fragment_text};
-ghost use Rattle.tui_textarea.specs.Prelude.{admitted, is_editable, unless_read_only, with_document};
+ghost use Rattle.tui_textarea.specs.Prelude.{admitted, admitted_between, admitted_for, is_editable, unless_read_only, with_document};
 ghost use Rattle.tui_textarea.specs.Replacing.{match_at_cursor, match_replaced, matches_replaced, replaceable, with_range_replaced};
 ghost use Rattle.textarea_c.specs.Calls.{Calls, ChangesArea, Copies, Given, Replaces};
 ghost use Rattle.textarea_c_data.specs.Lines.{AreCharactersOut};
@@ -66,9 +66,11 @@ pub extern "C" fn ta_replace_range(
     ensures { Calls handle.old.stored.content result handle.new.stored.content
         (λ a b. Given (text_in text.now) (λ t. Replaces
         (is_editable a.area && replaces a.area.document.text (from_row, from_column)
-        (to_row, to_column) (admitted a.area (fragment_symbols (chars t))))
+        (to_row, to_column) (admitted_between a.area (from_row, from_column)
+        (to_row, to_column) (fragment_symbols (chars t))))
         (unless_read_only a.area (with_range_replaced a.area (from_row, from_column)
-        (to_row, to_column) (admitted a.area (fragment_symbols (chars t)))))) result a b) }
+        (to_row, to_column) (admitted_between a.area (from_row, from_column)
+        (to_row, to_column) (fragment_symbols (chars t)))))) result a b) }
 {
     on!(handle, alloc, editor => match text_of(text) {
         Some(text) => flag(editor.area.replace_range(
@@ -91,7 +93,8 @@ pub extern "C" fn ta_replace_match(handle: &mut Handle, alloc: Global, text: &[u
     ensures replaced { Calls handle.old.stored.content result handle.new.stored.content
         (λ a b. Given (text_in text.now) (λ t. Replaces
         (is_editable a.area && is_some (match_at_cursor a.area))
-        (unless_read_only a.area (match_replaced a.area (admitted a.area (fragment_symbols (chars t)))))) result a b) }
+        (unless_read_only a.area (match_replaced a.area
+        (admitted_for (match_at_cursor a.area) a.area (fragment_symbols (chars t)))))) result a b) }
     ensures no_pattern { IfSome handle.old.stored.content
         (λ a. a.area.pattern ≡ None → result ≢ 2) }
 {

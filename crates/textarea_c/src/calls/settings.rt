@@ -1,13 +1,15 @@
-//! Options of tabs, line numbers and heights.
-ghost use Rattle.std.specs.Prelude.{◌≡◌, ◌≢◌, IfSome};
+//! Options of tabs, and the greatest number of characters.
+ghost use Rattle.std.specs.Prelude.{◌≡◌, ◌≢◌, IfSome, MatchOption, None, Some};
+ghost use Rattle.textarea_calls.specs.declared.call.Call.TheVariants as call;
 ghost use Rattle.tui_textarea.specs.LayoutCalls.{indent_of};
-ghost use Rattle.textarea_c.specs.Calls.{Calls, OnlyReads};
+ghost use Rattle.textarea_c.specs.Calls.{Asks, Calls, MakesSetting, OnlyReads};
 ghost use Rattle.textarea_c_data.specs.Copied.{IsCopiedOut};
 
 use crate::calls::on;
 use crate::handle::Handle;
 use std::alloc::Global;
 use textarea_c_data::slices::copy_out;
+use textarea_c_data::status::{FALSE, OK};
 
 /// Returns a tab at a line's start: a tab character, or a space for each column of its length.
 /// `out` gets the first of its bytes, as many as there is room for, and `needed` the number of all.
@@ -27,4 +29,56 @@ pub extern "C" fn ta_indent(
     ensures unwritten { result ≢ 0 → (out.new ≡ out.old) × (needed.new ≡ needed.old) }
 {
     on!(handle, alloc, editor => copy_out(editor.area.indent().as_bytes(), out, needed))
+}
+
+/// Sets the greatest number of characters of the text, a line break counted as one. Then what is
+/// typed does nothing if it doesn't fit, and an inserted text is cut at the end of the last of its
+/// grapheme clusters that fits. `ta_duplicate_line`, `ta_indent_lines` and `ta_replace_all` do
+/// nothing unless all that they insert fits. Undo, redo and `ta_set_lines` are never cut. There is
+/// none at first.
+///
+/// Statuses: ok, empty handle.
+#[unsafe(no_mangle)]
+pub extern "C" fn ta_set_max_chars(handle: &mut Handle, alloc: Global, maximum: usize) -> u32
+    ensures { Calls handle.old.stored.content result handle.new.stored.content
+        (λ a b. MakesSetting (call.SetMaxChars (Some maximum)) result a b) }
+{
+    on!(handle, alloc, editor => {
+        editor.area.set_max_chars(Some(maximum));
+        OK
+    })
+}
+
+/// Sets no greatest number of characters.
+///
+/// Statuses: ok, empty handle.
+#[unsafe(no_mangle)]
+pub extern "C" fn ta_clear_max_chars(handle: &mut Handle, alloc: Global) -> u32
+    ensures { Calls handle.old.stored.content result handle.new.stored.content
+        (λ a b. MakesSetting (call.SetMaxChars None) result a b) }
+{
+    on!(handle, alloc, editor => {
+        editor.area.set_max_chars(None);
+        OK
+    })
+}
+
+/// Returns the greatest number of characters of the text.
+///
+/// Statuses: ok, false (there is none), empty handle.
+#[unsafe(no_mangle)]
+pub extern "C" fn ta_max_chars(handle: &mut Handle, alloc: Global, maximum: &mut usize) -> u32
+    ensures unchanged { Calls handle.old.stored.content result handle.new.stored.content
+        (λ a b. Asks result a b) }
+    ensures value { IfSome handle.old.stored.content (λ a. MatchOption a.area.settings.max_chars
+        (result ≡ 1) (λ found. (result ≡ 0) × (maximum.new ≡ found))) }
+    ensures unwritten { result ≢ 0 → maximum.new ≡ maximum.old }
+{
+    on!(handle, alloc, editor => match editor.area.max_chars() {
+        Some(found) => {
+            *maximum = found;
+            OK
+        }
+        None => FALSE,
+    })
 }

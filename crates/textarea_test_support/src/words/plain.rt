@@ -20,6 +20,7 @@ pub(super) fn reading<'a>(name: &str) -> Option<Call<'a>>
         "undo_grouping" => Some(Call::UndoGrouping),
         "read_only" => Some(Call::ReadOnly),
         "single_line" => Some(Call::SingleLine),
+        "max_chars" => Some(Call::MaxChars),
         "tab_length" => Some(Call::TabLength),
         "hard_tab_indent" => Some(Call::HardTabIndent),
         "wrap_mode" => Some(Call::WrapMode),

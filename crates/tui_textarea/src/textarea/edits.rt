@@ -1,11 +1,11 @@
 //! Insertions. Each but `duplicate_line` first removes the selected text, as its own edit, and then
 //! moves a cursor that is strictly inside an atomic range to the range's end. With grouping on, both
 //! edits are one group.
-ghost use Rattle.std.specs.Prelude.{◌≡◌, ◌<◌, OnOk, OnErr, IsOk, IfOk, true, false, [], replicate, vec_len, ◌&&◌, if◌then◌else◌};
+ghost use Rattle.std.specs.Prelude.{◌≡◌, ◌<◌, OnOk, OnErr, IsOk, IfOk, true, false, not, [], replicate, vec_len, ◌&&◌, if◌then◌else◌};
 ghost use Rattle.std.specs.Arc.{arc_value};
 ghost use Rattle.std.specs.Str.{chars};
 ghost use Rattle.textarea_document.specs.Selection.{first_selected_row, last_selected_row, lines_duplicated, with_lines_again};
-ghost use Rattle.tui_textarea.specs.Prelude.{Character, lines, with_document, text_of, has_symbols, is_selected, fragment_symbols, pasted_symbols, inserts_tab, inserts_text, symbols_or_none_inserted, spaces_to_stop, char_inserted, char_or_break_inserted, line_broken, newline_inserted, tab_inserted, tab_or_spaces_inserted, str_inserted, IsInsertOutOfMemory, selection_cancelled, unselected, admitted, bars_break, bars_character, is_editable, unless_read_only};
+ghost use Rattle.tui_textarea.specs.Prelude.{Character, lines, with_document, text_of, has_symbols, is_selected, fragment_symbols, pasted_symbols, inserts_tab, inserts_text, symbols_or_none_inserted, spaces_to_stop, char_inserted, char_or_break_inserted, line_broken, newline_inserted, tab_inserted, tab_or_spaces_inserted, str_inserted, IsInsertOutOfMemory, selection_cancelled, unselected, admitted_over_selection, bars_break, bars_character, bars_duplicate, bars_tab, fitting_selection, fitting_spaces, is_editable, unless_read_only};
 
 use crate::textarea::TextArea;
 use std::alloc::{AllocError, Global};
@@ -99,8 +99,8 @@ impl TextArea<'_> {
     /// line; a carriage return directly before it is dropped.
     pub fn insert_str(&mut self, text: &str) -> Result<bool, AllocError>
         ensures inserted { IfOk result (λ inserted. inserted ≡ (is_editable self.old && inserts_text
-            self.old (fragment_symbols (chars text.now)))) }
-        ensures ok { OnOk result (self.new ≡ unless_read_only self.old (str_inserted self.old (admitted self.old
+            self.old (admitted_over_selection self.old (fragment_symbols (chars text.now))))) }
+        ensures ok { OnOk result (self.new ≡ unless_read_only self.old (str_inserted self.old (admitted_over_selection self.old
             (fragment_symbols (chars text.now))))) }
         ensures err { OnErr result (IsInsertOutOfMemory self.old self.new) }
         ensures nothing { (is_editable self.old && inserts_text self.old (fragment_symbols (chars
@@ -115,9 +115,10 @@ impl TextArea<'_> {
     // The same, whether the text area is read only or not.
     fn insert_str_unguarded(&mut self, text: &str) -> Result<bool, AllocError>
         ensures inserted { IfOk result
-            (λ inserted. inserted ≡ inserts_text self.old (fragment_symbols (chars text.now))) }
+            (λ inserted. inserted ≡ inserts_text self.old
+            (admitted_over_selection self.old (fragment_symbols (chars text.now)))) }
         ensures ok { OnOk result
-            (self.new ≡ str_inserted self.old (admitted self.old
+            (self.new ≡ str_inserted self.old (admitted_over_selection self.old
             (fragment_symbols (chars text.now)))) }
         ensures err { OnErr result (IsInsertOutOfMemory self.old self.new) }
         ensures nothing { inserts_text self.old (fragment_symbols (chars text.now)) ≡ false → IsOk
@@ -126,9 +127,10 @@ impl TextArea<'_> {
         if !has_text(text) {
             return self.insert_nothing();
         }
+        let removes = self.document.filled_selection().is_some();
         let fragment_lines = self.admitted_fragment(text)?;
-        self.insert_over_selection(fragment_lines)?;
-        Ok(true)
+        let inserts = self.insert_over_selection(fragment_lines)?;
+        Ok(removes || inserts)
     }
 
     /// Inserts a text that was pasted from outside, where `insert_str` inserts, and returns whether
@@ -136,8 +138,8 @@ impl TextArea<'_> {
     /// carriage return, or a carriage return and a line feed.
     pub fn insert_pasted(&mut self, text: &str) -> Result<bool, AllocError>
         ensures inserted { IfOk result (λ inserted. inserted ≡ (is_editable self.old && inserts_text
-            self.old (pasted_symbols (chars text.now)))) }
-        ensures ok { OnOk result (self.new ≡ unless_read_only self.old (str_inserted self.old (admitted self.old
+            self.old (admitted_over_selection self.old (pasted_symbols (chars text.now))))) }
+        ensures ok { OnOk result (self.new ≡ unless_read_only self.old (str_inserted self.old (admitted_over_selection self.old
             (pasted_symbols (chars text.now))))) }
         ensures err { OnErr result (IsInsertOutOfMemory self.old self.new) }
         ensures nothing { (is_editable self.old && inserts_text self.old (pasted_symbols (chars
@@ -152,9 +154,10 @@ impl TextArea<'_> {
     // The same, whether the text area is read only or not.
     fn insert_pasted_unguarded(&mut self, text: &str) -> Result<bool, AllocError>
         ensures inserted { IfOk result
-            (λ inserted. inserted ≡ inserts_text self.old (pasted_symbols (chars text.now))) }
+            (λ inserted. inserted ≡ inserts_text self.old
+            (admitted_over_selection self.old (pasted_symbols (chars text.now)))) }
         ensures ok { OnOk result
-            (self.new ≡ str_inserted self.old (admitted self.old
+            (self.new ≡ str_inserted self.old (admitted_over_selection self.old
             (pasted_symbols (chars text.now)))) }
         ensures err { OnErr result (IsInsertOutOfMemory self.old self.new) }
         ensures nothing { inserts_text self.old (pasted_symbols (chars text.now)) ≡ false → IsOk
@@ -170,8 +173,8 @@ impl TextArea<'_> {
     /// Inserts the yanked text where `insert_str` inserts, and returns whether there was any.
     pub fn paste(&mut self) -> Result<bool, AllocError>
         ensures inserted { IfOk result (λ inserted. inserted ≡ (is_editable self.old && has_symbols
-            self.old.yank)) }
-        ensures ok { OnOk result (self.new ≡ unless_read_only self.old (str_inserted self.old (admitted self.old self.old.yank))) }
+            (admitted_over_selection self.old self.old.yank))) }
+        ensures ok { OnOk result (self.new ≡ unless_read_only self.old (str_inserted self.old (admitted_over_selection self.old self.old.yank))) }
         ensures err { OnErr result (IsInsertOutOfMemory self.old self.new) }
         ensures nothing { (is_editable self.old && inserts_text self.old self.old.yank) ≡ false →
             IsOk result }
@@ -184,8 +187,9 @@ impl TextArea<'_> {
 
     // The same, whether the text area is read only or not.
     fn paste_unguarded(&mut self) -> Result<bool, AllocError>
-        ensures inserted { IfOk result (λ inserted. inserted ≡ has_symbols self.old.yank) }
-        ensures ok { OnOk result (self.new ≡ str_inserted self.old (admitted self.old self.old.yank)) }
+        ensures inserted { IfOk result (λ inserted. inserted ≡ has_symbols
+            (admitted_over_selection self.old self.old.yank)) }
+        ensures ok { OnOk result (self.new ≡ str_inserted self.old (admitted_over_selection self.old self.old.yank)) }
         ensures err { OnErr result (IsInsertOutOfMemory self.old self.new) }
         ensures nothing { inserts_text self.old self.old.yank ≡ false → IsOk result }
     {
@@ -194,19 +198,18 @@ impl TextArea<'_> {
             return Ok(false);
         }
         let fragment_lines = self.admitted(self.yank.clone()?)?;
-        self.insert_over_selection(fragment_lines)?;
-        Ok(true)
+        self.insert_over_selection(fragment_lines)
     }
 
-    // Replaces the selected text by a fragment, and returns whether the fragment has a symbol.
+    // Replaces the selected text by what fits of a fragment, and returns whether that has a symbol.
     fn insert_over_selection(
         &mut self,
         fragment_lines: Arc<Vec<String>>,
     ) -> Result<bool, AllocError>
-        ensures inserted { IfOk result
-            (λ inserted. inserted ≡ has_symbols (text_of (arc_value fragment_lines).items)) }
-        ensures ok { OnOk result
-            (self.new ≡ str_inserted self.old (text_of (arc_value fragment_lines).items)) }
+        ensures inserted { IfOk result (λ inserted. inserted ≡ has_symbols
+            (fitting_selection self.old (text_of (arc_value fragment_lines).items))) }
+        ensures ok { OnOk result (self.new ≡ str_inserted self.old
+            (fitting_selection self.old (text_of (arc_value fragment_lines).items))) }
         ensures err { OnErr result (IsInsertOutOfMemory self.old self.new) }
     {
         let opens = self.begin_call();
@@ -217,15 +220,15 @@ impl TextArea<'_> {
 
     // The same, without a group of its own.
     fn replace_by_fragment(&mut self, fragment_lines: Arc<Vec<String>>) -> Result<bool, AllocError>
-        ensures inserted { IfOk result
-            (λ inserted. inserted ≡ has_symbols (text_of (arc_value fragment_lines).items)) }
-        ensures ok { OnOk result
-            (self.new ≡ symbols_or_none_inserted (unselected self.old)
-            (text_of (arc_value fragment_lines).items)) }
+        ensures inserted { IfOk result (λ inserted. inserted ≡ has_symbols
+            (fitting_selection self.old (text_of (arc_value fragment_lines).items))) }
+        ensures ok { OnOk result (self.new ≡ symbols_or_none_inserted (unselected self.old)
+            (fitting_selection self.old (text_of (arc_value fragment_lines).items))) }
         ensures err { OnErr result (IsInsertOutOfMemory self.old self.new) }
     {
         self.document.remove_selection(self.time)?;
-        self.document.insert(fragment_lines, self.time)
+        let fitting = self.fitting(fragment_lines, self.symbol_count())?;
+        self.document.insert(fitting, self.time)
     }
 
     /// Inserts the cursor's line once more below it, or the lines of the selection below the last of
@@ -234,15 +237,15 @@ impl TextArea<'_> {
     /// ranges stay with the first lines, and the copy has none. What was yanked stays. After it the
     /// lines are those up to the last of these lines, and then those from the first of them on.
     pub fn duplicate_line(&mut self) -> Result<(), AllocError>
-        ensures ok { OnOk result (self.new ≡ (if bars_break self.old then self.old else (with_document self.old
+        ensures ok { OnOk result (self.new ≡ (if bars_duplicate self.old then self.old else (with_document self.old
             (lines_duplicated self.old.document self.old.time)))) }
         ensures err { OnErr result (self.new ≡ self.old) }
-        ensures lines { OnOk result (lines self.new.document.text ≡ (if bars_break self.old
+        ensures lines { OnOk result (lines self.new.document.text ≡ (if bars_duplicate self.old
             then lines self.old.document.text else with_lines_again (lines self.old.document.text)
             (first_selected_row self.old.document) (last_selected_row self.old.document))) }
-        ensures nothing { bars_break self.old ≡ true → IsOk result }
+        ensures nothing { bars_duplicate self.old ≡ true → IsOk result }
     {
-        if self.bars_break() {
+        if self.bars_duplicate() {
             return Ok(());
         }
         self.duplicate_line_unguarded()
@@ -264,13 +267,14 @@ impl TextArea<'_> {
     /// and returns whether it inserted something or removed a selection. With hard tabs that is a
     /// tab character, as typed, otherwise spaces up to the next tab stop; at tab length 0 nothing.
     pub fn insert_tab(&mut self) -> Result<bool, AllocError>
-        ensures inserted { IfOk result (λ inserted. inserted ≡ (is_editable self.old && inserts_tab
-            self.old)) }
-        ensures ok { OnOk result (self.new ≡ unless_read_only self.old (tab_inserted self.old)) }
+        ensures inserted { IfOk result
+            (λ inserted. inserted ≡ (not (bars_tab self.old) && inserts_tab self.old)) }
+        ensures ok { OnOk result
+            (self.new ≡ (if bars_tab self.old then self.old else tab_inserted self.old)) }
         ensures err { OnErr result (IsInsertOutOfMemory self.old self.new) }
-        ensures nothing { (is_editable self.old && inserts_tab self.old) ≡ false → IsOk result }
+        ensures nothing { (not (bars_tab self.old) && inserts_tab self.old) ≡ false → IsOk result }
     {
-        if self.read_only() {
+        if self.bars_tab() {
             return Ok(false);
         }
         self.insert_tab_unguarded()
@@ -320,17 +324,16 @@ impl TextArea<'_> {
         self.insert_spaces(tab_length)
     }
 
-    // Inserts spaces from the insertion position up to the next tab stop.
+    // Inserts spaces from the insertion position up to the next tab stop, as many as fit.
     fn insert_spaces(&mut self, tab_length: u8) -> Result<(), AllocError>
         requires some { 0 < tab_length }
         ensures ok { OnOk result
-            (self.new ≡ symbols_or_none_inserted self.old
-            (replicate (spaces_to_stop self.old.document tab_length) (Character 32))) }
+            (self.new ≡ symbols_or_none_inserted self.old (fitting_spaces self.old tab_length)) }
         ensures err { OnErr result (self.new ≡ self.old) }
     {
         let (row, column) = self.document.insertion_place();
         let line = self.document.lines()[row].as_str();
-        let count = spaces_to_stop(line, column, tab_length);
+        let count = self.fitting_count(spaces_to_stop(line, column, tab_length));
         let fragment_lines = spaces_as_fragment(self.allocator(), count)?;
         self.document.insert(fragment_lines, self.time)?;
         Ok(())

@@ -1,7 +1,7 @@
 //! Lines that are indented and outdented, each call one group of edits.
-ghost use Rattle.std.specs.Prelude.{◌≡◌, IfOk, OnErr, OnOk, [], false, true, ◌&&◌, IsOk, if◌then◌else◌};
+ghost use Rattle.std.specs.Prelude.{◌≡◌, IfOk, OnErr, OnOk, [], false, true, ◌&&◌, not, IsOk, if◌then◌else◌};
 ghost use Rattle.textarea_document.specs.Indenting.{lines_indented, lines_outdented, shifts_lines, tab_of, with_starts};
-ghost use Rattle.tui_textarea.specs.Prelude.{lines, with_document, is_editable, unless_read_only};
+ghost use Rattle.tui_textarea.specs.Prelude.{lines, with_document, bars_indent, is_editable, unless_read_only};
 
 use crate::textarea::TextArea;
 use std::alloc::AllocError;
@@ -15,17 +15,17 @@ impl TextArea<'_> {
     /// move with the characters after them, but a selection that begins at column 0 still does.
     /// Atomic ranges move along. Without such a line nothing changes.
     pub fn indent_lines(&mut self) -> Result<bool, AllocError>
-        ensures indented { IfOk result (λ indented. indented ≡ (is_editable self.old && shifts_lines
-            self.old.document false)) }
-        ensures ok { OnOk result (self.new ≡ unless_read_only self.old (with_document self.old
-            (lines_indented self.old.document self.old.settings.hard_tab_indent self.old.time))) }
+        ensures indented { IfOk result (λ indented. indented ≡ (not (bars_indent self.old) &&
+            shifts_lines self.old.document false)) }
+        ensures ok { OnOk result (self.new ≡ (if bars_indent self.old then self.old else with_document
+            self.old (lines_indented self.old.document self.old.settings.hard_tab_indent self.old.time))) }
         ensures err { OnErr result (self.new ≡ self.old) }
-        ensures lines { OnOk result (lines self.new.document.text ≡ (if self.old.settings.read_only
+        ensures lines { OnOk result (lines self.new.document.text ≡ (if bars_indent self.old
             then lines self.old.document.text else with_starts self.old.document false (tab_of
             self.old.document self.old.settings.hard_tab_indent) 0 (lines self.old.document.text))) }
         ensures nothing { is_editable self.old ≡ false → IsOk result }
     {
-        if self.read_only() {
+        if self.read_only() || !self.fits_indent()? {
             return Ok(false);
         }
         self.indent_lines_unguarded()

@@ -3,15 +3,18 @@ ghost use Rattle.std.specs.Prelude.{◌≡◌, None, OnOk, OnErr, IsOk, IfOk, is
 ghost use Rattle.std.specs.Arc.{arc_value};
 ghost use Rattle.std.specs.Str.{chars};
 ghost use Rattle.textarea_document.specs.Replacing.{replaces, stretch_symbols};
-ghost use Rattle.tui_textarea.specs.Prelude.{fragment_symbols, fragment_text, text_of, admitted, is_editable, unless_read_only};
+ghost use Rattle.tui_textarea.specs.Prelude.{fragment_symbols, fragment_text, text_of, admitted, admitted_between, admitted_for, bars_each, is_editable, unless_read_only};
+ghost use Rattle.tui_textarea.specs.Fitting.{fits_each};
 ghost use Rattle.tui_textarea.specs.Replacing.{match_at_cursor, match_replaced, match_replaced_by, matches_replaced, replaceable, with_range_replaced};
 
 use crate::matches::{match_at, replaceable_in};
+use crate::textarea::guards::symbol_count;
 use crate::textarea::TextArea;
 use std::alloc::AllocError;
 use std::sync::Arc;
 use textarea_search::search::TextMatch;
 use textarea_text::fragment::fragment_of;
+use textarea_text::text_slice::between;
 
 impl TextArea<'_> {
     /// Returns the text between two positions, in either order, with a line feed for each line
@@ -36,9 +39,9 @@ impl TextArea<'_> {
         text: &str,
     ) -> Result<bool, AllocError>
         ensures replaced { IfOk result (λ replaced. replaced ≡ (is_editable self.old && replaces
-            self.old.document.text from to (admitted self.old (fragment_symbols (chars text.now))))) }
+            self.old.document.text from to (admitted_between self.old from to (fragment_symbols (chars text.now))))) }
         ensures ok { OnOk result (self.new ≡ unless_read_only self.old (with_range_replaced self.old
-            from to (admitted self.old (fragment_symbols (chars text.now))))) }
+            from to (admitted_between self.old from to (fragment_symbols (chars text.now))))) }
         ensures err { OnErr result (self.new ≡ self.old) }
         ensures nothing { is_editable self.old ≡ false → IsOk result }
     {
@@ -56,12 +59,13 @@ impl TextArea<'_> {
         text: &str,
     ) -> Result<bool, AllocError>
         ensures replaced { IfOk result (λ replaced. replaced
-            ≡ replaces self.old.document.text from to (admitted self.old (fragment_symbols (chars text.now)))) }
+            ≡ replaces self.old.document.text from to (admitted_between self.old from to (fragment_symbols (chars text.now)))) }
         ensures ok { OnOk result (self.new
-            ≡ with_range_replaced self.old from to (admitted self.old (fragment_symbols (chars text.now)))) }
+            ≡ with_range_replaced self.old
+            from to (admitted_between self.old from to (fragment_symbols (chars text.now)))) }
         ensures err { OnErr result (self.new ≡ self.old) }
     {
-        let fragment_lines = self.admitted_fragment(text)?;
+        let fragment_lines = self.fragment_between(from, to, text)?;
         self.document
             .replace_range(from, to, fragment_lines, self.time)
     }
@@ -75,7 +79,7 @@ impl TextArea<'_> {
         ensures replaced { IfOk result (λ replaced. replaced ≡ (is_editable self.old && is_some
             (match_at_cursor self.old))) }
         ensures ok { OnOk result (self.new ≡ unless_read_only self.old (match_replaced self.old
-            (admitted self.old (fragment_symbols (chars text.now))))) }
+            (admitted_for (match_at_cursor self.old) self.old (fragment_symbols (chars text.now))))) }
         ensures err { OnErr result (self.new ≡ self.old) }
         ensures no_pattern { self.old.pattern ≡ None → IsOk result }
         ensures read_only { is_editable self.old ≡ false → IsOk result }
@@ -91,7 +95,8 @@ impl TextArea<'_> {
         ensures replaced { IfOk result
             (λ replaced. replaced ≡ is_some (match_at_cursor self.old)) }
         ensures ok { OnOk result
-            (self.new ≡ match_replaced self.old (admitted self.old (fragment_symbols (chars text.now)))) }
+            (self.new ≡ match_replaced self.old
+            (admitted_for (match_at_cursor self.old) self.old (fragment_symbols (chars text.now)))) }
         ensures err { OnErr result (self.new ≡ self.old) }
         ensures no_pattern { self.old.pattern ≡ None → IsOk result }
     {
@@ -115,10 +120,10 @@ impl TextArea<'_> {
     /// before, so nothing can be undone. `set_max_histories` with twice the number of matches makes
     /// room for them; since it forgets all edits, it is best called before the first one.
     pub fn replace_all(&mut self, text: &str) -> Result<usize, AllocError>
-        ensures count { IfOk result (λ count. count ≡ (if self.old.settings.read_only then 0 else
+        ensures count { IfOk result (λ count. count ≡ (if bars_each self.old text then 0 else
             length (replaceable self.old))) }
-        ensures ok { OnOk result (self.new ≡ unless_read_only self.old (matches_replaced self.old
-            (admitted self.old (fragment_symbols (chars text.now))))) }
+        ensures ok { OnOk result (self.new ≡ (if bars_each self.old text then self.old else matches_replaced
+            self.old (admitted self.old (fragment_symbols (chars text.now))))) }
         ensures err { OnErr result (self.new ≡ self.old) }
         ensures no_pattern { self.old.pattern ≡ None → IsOk result }
         ensures read_only { is_editable self.old ≡ false → IsOk result }
@@ -131,9 +136,11 @@ impl TextArea<'_> {
 
     // The same, whether the text area is read only or not.
     fn replace_all_unguarded(&mut self, text: &str) -> Result<usize, AllocError>
-        ensures count { IfOk result (λ count. count ≡ length (replaceable self.old)) }
-        ensures ok { OnOk result
-            (self.new ≡ matches_replaced self.old (admitted self.old (fragment_symbols (chars text.now)))) }
+        ensures count { IfOk result (λ count. count ≡ (if fits_each self.old (replaceable self.old)
+            (admitted self.old (fragment_symbols (chars text.now))) then length (replaceable self.old) else 0)) }
+        ensures ok { OnOk result (self.new ≡ (if fits_each self.old (replaceable self.old)
+            (admitted self.old (fragment_symbols (chars text.now))) then matches_replaced self.old
+            (admitted self.old (fragment_symbols (chars text.now))) else self.old)) }
         ensures err { OnErr result (self.new ≡ self.old) }
         ensures no_pattern { self.old.pattern ≡ None → IsOk result }
     {
@@ -142,6 +149,9 @@ impl TextArea<'_> {
             return Ok(0);
         }
         let fragment_lines = self.admitted_fragment(text)?;
+        if !self.fits_each(stretches.as_slice(), fragment_lines.as_slice()) {
+            return Ok(0);
+        }
         self.document
             .replace_all(stretches.as_slice(), &fragment_lines, self.time)?;
         Ok(stretches.len())
@@ -155,6 +165,31 @@ impl TextArea<'_> {
         let alloc = self.allocator();
         let fragment_lines = fragment_of(alloc, text)?;
         self.admitted(Arc::new(alloc, fragment_lines)?)
+    }
+
+    // Returns what is inserted of the text in place of that between two positions, as a fragment.
+    fn fragment_between(
+        &self,
+        from: (usize, usize),
+        to: (usize, usize),
+        text: &str,
+    ) -> Result<Arc<Vec<String>>, AllocError>
+        ensures { IfOk result (λ fragment_lines. text_of (arc_value fragment_lines).items
+            ≡ admitted_between self.now from to (fragment_symbols (chars text.now))) }
+    {
+        let fragment_lines = self.admitted_fragment(text)?;
+        let others = self.symbol_count() - self.stretch_length(from, to)?;
+        self.fitting(fragment_lines, others)
+    }
+
+    // Returns the number of symbols between the positions that are nearest to these two.
+    fn stretch_length(&self, from: (usize, usize), to: (usize, usize)) -> Result<usize, AllocError>
+        ensures { IfOk result
+            (λ count. count ≡ length (stretch_symbols self.now.document.text from to)) }
+    {
+        let (start, end) = self.document.stretch(from, to);
+        let removed = between(self.allocator(), self.document.lines(), start, end)?;
+        Ok(symbol_count(removed.as_slice()))
     }
 
     // Returns the numbers of symbols before the start and before the end of each match that can be
@@ -182,11 +217,12 @@ impl TextArea<'_> {
     // Replaces the match, and moves the cursor to the next one.
     fn replace_found(&mut self, found: TextMatch, text: &str) -> Result<(), AllocError>
         ensures ok { OnOk result (self.new
-            ≡ match_replaced_by (Some found) self.old (admitted self.old (fragment_symbols (chars text.now)))) }
+            ≡ match_replaced_by (Some found) self.old
+            (admitted_for (Some found) self.old (fragment_symbols (chars text.now)))) }
         ensures err { OnErr result (self.new ≡ self.old) }
     {
         let (first, last) = found.columns;
-        let fragment_lines = self.admitted_fragment(text)?;
+        let fragment_lines = self.fragment_between((found.row, first), (found.row, last), text)?;
         let copy = self.document.replaced(
             (found.row, first),
             (found.row, last),

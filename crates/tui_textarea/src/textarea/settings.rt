@@ -20,11 +20,13 @@ pub struct Settings {
     pub read_only: bool,
     /// Whether the text is kept in a single line.
     pub single_line: bool,
+    /// The greatest number of symbols of the text, if there is one.
+    pub max_chars: Option<usize>,
 }
 
 impl Default for Settings {
     /// Tabs as spaces, typed edits do not join, no edits are grouped, and the text can be edited
-    /// and have several lines.
+    /// and have several lines and any number of characters.
     fn default() -> Settings
         ensures { result ≡ default_settings }
     {
@@ -34,6 +36,7 @@ impl Default for Settings {
             undo_grouping: false,
             read_only: false,
             single_line: false,
+            max_chars: None,
         }
     }
 }
