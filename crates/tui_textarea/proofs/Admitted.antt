@@ -1,22 +1,18 @@
--- What is inserted of a text in place of the selected one, or of the text between two positions.
-use Rattle.std.proofs.Common.{◌≡◌, ◌∙◌, ◌+◌, ◌-◌, ◌*◌, ◌≤◌, ◌<◌, ◌||◌, Bool, true, false, ℕ, List, [], ◌∷◌, ◌++◌, Option, None, Some, Global, String, ap, arith, drop, is_some, length, min, refl, sym, take, take-append-drop, take_all}
+-- What is inserted of a text in place of the selected one.
+use Rattle.std.proofs.Common.{◌≡◌, ◌∙◌, ◌+◌, ◌-◌, ◌*◌, ◌≤◌, ◌<◌, Bool, true, false, ℕ, List, [], ◌∷◌, Option, None, Some, ap, arith, is_some, length, min, refl, sym, take_all}
 use Rattle.std.proofs.Math.Bool.{or-false}
 use Rattle.std.proofs.Math.Seq.{take-nil}
-use Rattle.std.proofs.lemmas.List.{length-drop, length-take}
 use Rattle.std.proofs.lemmas.Bool.Decides.{nat_tests}
-use Rattle.std.specs.Option.{MatchOption}
+use Rattle.std.specs.Option.{MatchOption, is_none}
 use Rattle.textarea_clusters.specs.Edges.{edge_back}
 use Rattle.textarea_clusters.proofs.EdgeLemmas.{edge_at_end, edge_back_is}
 use Rattle.textarea_document.specs.Edits.{has_symbols}
-use Rattle.textarea_document.specs.Replacing.{stretch_symbols}
 use Rattle.textarea_document.specs.Selection.{is_selected}
 use Rattle.textarea_text.specs.Between.{symbols_between}
 use Rattle.textarea_text.specs.Place.{Place, index_of, line_of, place_of}
-use Rattle.textarea_text.specs.Size.{size_of, weight}
-use Rattle.textarea_text.specs.Text.{Symbol, Break, Character, lines, on_first, text_of}
+use Rattle.textarea_text.specs.Text.{Symbol, Break, Character, lines, on_first}
 use Rattle.textarea_text.proofs.PlaceLemmas.{is_at_end}
 use Rattle.textarea_text.proofs.TextPlaces.{joined-lines}
-use Rattle.textarea_text.proofs.Sizes.{size_of_text, weight-append}
 use Rattle.tui_textarea.specs.Edits.{inserts_text}
 use Rattle.tui_textarea.specs.Fitting.{beginning, cluster_end, fits_each, fits_for, fitting_beside, fitting_selection, is_allowed}
 use Rattle.tui_textarea.specs.Guards.{admitted, admitted_over_selection}
@@ -47,7 +43,7 @@ fits_none state stretches symbols none =
 
 -- ---- without a maximum
 
-pub fits_whole : (maximum : Option ℕ) (others : ℕ) (symbols : List Symbol) → is_some maximum ≡ false → fitting_beside maximum others symbols ≡ symbols
+pub fits_whole : (maximum : Option ℕ) (others : ℕ) (symbols : List Symbol) → is_none maximum ≡ true → fitting_beside maximum others symbols ≡ symbols
 fits_whole None others symbols none = refl
 fits_whole (Some most) others symbols none = absurd cc
 
@@ -89,28 +85,3 @@ all_fits (Some most) others symbols room = beginning_whole symbols (most - other
 pub selected_is : {T : Type 0} (found : Option T) (selected : Bool) → MatchOption found (selected ≡ false) (λ ends. selected ≡ true) → is_some found ≡ selected
 selected_is None selected h = sym h
 selected_is (Some ends) selected h = sym h
-
--- ---- the text between two positions
-
-part_length : (text : List Symbol) (start count : ℕ) → length (take count (drop start text)) ≤ length text
-part_length text start count = omega (arith, length-take count (drop start text), length-drop start text)
-
-pub stretch_within : (text : List Symbol) (from to : Place) → length (stretch_symbols text from to) ≤ length text
-stretch_within text from to = part_length text _ _
-
-part_weight : (text : List Symbol) (start count : ℕ) → weight (take count (drop start text)) ≤ weight text
-part_weight text start count =
-    let rest = drop start text in
-    omega (
-      arith,
-      weight-append (take start text) rest,
-      ap weight (take-append-drop start text),
-      weight-append (take count rest) (drop count rest),
-      ap weight (take-append-drop count rest),
-    )
-
--- it is no larger than the text's lines
-pub part_size : (removed lines : List (String Global)) (start count limit : ℕ) → text_of removed ≡ take count (drop start (text_of lines)) → 0 < length removed → 0 < length lines
-    → size_of lines ≤ limit → size_of removed ≤ limit
-part_size removed lines start count limit is some others within =
-    omega (arith, size_of_text removed some, size_of_text lines others, ap weight is, part_weight (text_of lines) start count, within)

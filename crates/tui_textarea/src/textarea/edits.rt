@@ -131,7 +131,10 @@ impl TextArea<'_> {
         let removes = self.document.filled_selection().is_some();
         let fragment_lines = self.admitted_fragment(text)?;
         let inserts = self.insert_over_selection(fragment_lines)?;
-        Ok(removes || inserts)
+        if removes {
+            return Ok(true);
+        }
+        Ok(inserts)
     }
 
     /// Inserts a text that was pasted from outside, where `insert_str` inserts, and returns whether
