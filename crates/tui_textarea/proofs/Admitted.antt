@@ -3,7 +3,7 @@ use Rattle.std.proofs.Common.{◌≡◌, ◌∙◌, ◌+◌, ◌-◌, ◌*◌, �
 use Rattle.std.proofs.Math.Bool.{or-false}
 use Rattle.std.proofs.Math.Seq.{take-nil}
 use Rattle.std.proofs.lemmas.Bool.Decides.{nat_tests}
-use Rattle.std.specs.Option.{MatchOption, is_none}
+use Rattle.std.specs.Option.{MatchOption}
 use Rattle.textarea_clusters.specs.Edges.{edge_back}
 use Rattle.textarea_clusters.proofs.EdgeLemmas.{edge_at_end, edge_back_is}
 use Rattle.textarea_document.specs.Edits.{has_symbols}
@@ -43,7 +43,7 @@ fits_none state stretches symbols none =
 
 -- ---- without a maximum
 
-pub fits_whole : (maximum : Option ℕ) (others : ℕ) (symbols : List Symbol) → is_none maximum ≡ true → fitting_beside maximum others symbols ≡ symbols
+pub fits_whole : (maximum : Option ℕ) (others : ℕ) (symbols : List Symbol) → is_some maximum ≡ false → fitting_beside maximum others symbols ≡ symbols
 fits_whole None others symbols none = refl
 fits_whole (Some most) others symbols none = absurd cc
 

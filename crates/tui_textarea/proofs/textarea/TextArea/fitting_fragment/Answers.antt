@@ -1,5 +1,4 @@
-use Rattle.std.proofs.Common.{◌≡◌, ◌∙◌, ℕ, ap, length, subst, sym}
-use Rattle.std.specs.Option.{is_none}
+use Rattle.std.proofs.Common.{◌≡◌, ◌∙◌, ℕ, ap, is_some, length, not, subst, sym}
 use Rattle.std.specs.Result.{IfOk}
 use Rattle.textarea_text.specs.Text.{text_of}
 use Rattle.tui_textarea.specs.Fitting.{fitting_beside}
@@ -11,7 +10,7 @@ pub returns-then-is_none : goal.returns-then-is_none
 returns-then-is_none c =
     let old = c.args.self.now in
     sym (fits_whole old.settings.max_chars (length old.document.text) (text_of c.args.fragment_lines.value.items)
-    (ap (λ (s : State). is_none s.settings.max_chars) (sym c.self.view_is) ∙ sym c.is_none.ensures ∙ c.if-is_none.true))
+    (ap (λ (s : State). is_some s.settings.max_chars) (sym c.self.view_is) ∙ c.is_none.ensures ∙ ap not c.if-is_none.true))
 
 pub returns : goal.returns
 returns c =

@@ -1,5 +1,4 @@
-use Rattle.std.proofs.Common.{◌≡◌, ◌∙◌, ◌-◌, ap, arith, length, sym}
-use Rattle.std.specs.Option.{is_none}
+use Rattle.std.proofs.Common.{◌≡◌, ◌∙◌, ◌-◌, ap, arith, is_some, length, not, sym}
 use Rattle.std.specs.Str.{chars}
 use Rattle.textarea_document.specs.Replacing.{stretch_end, stretch_start, stretch_symbols}
 use Rattle.textarea_text.specs.Fragment.{fragment_symbols}
@@ -15,7 +14,7 @@ returns-then-is_none c =
     let text = old.document.text in
     c.in_ok-fragment_lines.ensures
     ∙ sym (fits_whole old.settings.max_chars (length text - length (stretch_symbols text c.args.from c.args.to)) (admitted old (fragment_symbols (chars c.args.text.now)))
-    (ap (λ (s : State). is_none s.settings.max_chars) (sym c.self.view_is) ∙ sym c.is_none.ensures ∙ c.if-is_none.true))
+    (ap (λ (s : State). is_some s.settings.max_chars) (sym c.self.view_is) ∙ c.is_none.ensures ∙ ap not c.if-is_none.true))
 
 pub overflow_sub-others : goal.overflow_sub-others
 overflow_sub-others c =
