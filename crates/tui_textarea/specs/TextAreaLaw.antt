@@ -21,10 +21,10 @@ copied_and_pasted state =
     let copied = selection_copied state in
     unless_read_only copied (str_inserted copied (admitted copied copied.yank))
 
--- A `paste` after a `copy` with selected text: the text has exactly the selected symbols inserted, with a
--- space for each break in a text area of a single line,
--- at the cursor or at the end of the atomic range that strictly contains it; the cursor is after
--- them; and the paste returns that there was something to insert.
+-- A `paste` after a `copy` with selected text: the text has exactly the selected symbols inserted,
+-- with a space for each break in a text area of a single line, at the cursor or at the end of the
+-- atomic range that strictly contains it; the cursor is after them; and the paste returns that there
+-- was something to insert.
 pub record PastesCopy (state : State) : Type 0 where
   pub text : (copied_and_pasted state).document.text
       ≡ inserted state.document.text (insertion_place state.document) (admitted state (selected state.document))

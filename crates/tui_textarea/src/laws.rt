@@ -30,10 +30,10 @@ pub fn one_input()
     one_move();
 }
 
-/// A text of one line that is typed from its start, and can be edited, stays one, with the cursor after it: a character
-/// is added at its end, a removal of the symbol before the cursor removes the last one, and `clear`
-/// removes all. An insertion that runs out of memory leaves it as it was. Its text is written as its
-/// characters.
+/// A text of one line that is typed from its start, and can be edited, stays one, with the cursor
+/// after it: a character is added at its end, a removal of the symbol before the cursor removes the
+/// last one, and `clear` removes all. An insertion that runs out of memory leaves it as it was. Its
+/// text is written as its characters.
 pub fn typed_line_stays()
     ensures typed { (old new : State) (line : List ℕ) (c : ℕ) → IsTypedLine old line →
         breaks_line c ≡ false → new ≡ (if bars_character old c then old else char_inserted old c) →
