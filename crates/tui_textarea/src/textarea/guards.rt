@@ -18,10 +18,10 @@ use textarea_text::text_slice::between;
 
 impl TextArea<'_> {
     /// Sets whether the text area is read only. Then no call but `set_lines` changes the text: every
-    /// other call that edits, and an undo and a redo, changes nothing, neither what is yanked nor the
-    /// selection, takes no memory, and returns false, 0 or `None`. But `cut` does what `copy` does, and
-    /// returns whether a text was selected. An input that would edit returns false. Moves, selections,
-    /// searches and settings work as ever. A new text area can be edited.
+    /// other call that edits, and an undo and a redo, changes nothing, neither what is yanked nor
+    /// the selection, takes no memory, and returns false, 0 or `None`. But `cut` does what `copy`
+    /// does, and returns whether a text was selected. An input that would edit returns false. Moves,
+    /// selections, searches and settings work as ever. A new text area can be edited.
     pub fn set_read_only(&mut self, read_only: bool)
         ensures { self.new
             ≡ record self.old
@@ -39,10 +39,10 @@ impl TextArea<'_> {
 
     /// Sets whether the text is kept in a single line, and returns whether it could be set. Then
     /// `insert_newline`, `duplicate_line`, and `insert_char` of a line feed or a carriage return do
-    /// nothing, an input for them returns false, each break of a text that is inserted or pasted becomes
-    /// a space, and `set_lines` of several lines does nothing. Setting it forgets all edits, since they
-    /// may have had breaks. A text of several lines can't be kept in one: then nothing changes, and the
-    /// result is false. A new text area may have several lines.
+    /// nothing, an input for them returns false, each break of a text that is inserted or pasted
+    /// becomes a space, and `set_lines` of several lines does nothing. Setting it forgets all edits,
+    /// since they may have had breaks. A text of several lines can't be kept in one: then nothing
+    /// changes, and the result is false. A new text area may have several lines.
     pub fn set_single_line(&mut self, single_line: bool) -> bool
         ensures set { result ≡ not (single_line && has_several_lines self.old) }
         ensures new { self.new ≡ single_line_set self.old single_line }
