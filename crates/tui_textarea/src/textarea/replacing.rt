@@ -178,7 +178,8 @@ impl TextArea<'_> {
             ≡ admitted_between self.now from to (fragment_symbols (chars text.now))) }
     {
         let fragment_lines = self.admitted_fragment(text)?;
-        let others = self.symbol_count() - self.stretch_length(from, to)?;
+        let removed = self.stretch_length(from, to)?;
+        let others = self.symbol_count() - removed;
         self.fitting(fragment_lines, others)
     }
 
