@@ -1,5 +1,5 @@
 -- How many symbols lines and stretches have, and what fits of a text.
-use Rattle.std.proofs.Common.{◌≡◌, ◌∙◌, ℕ, zero, suc, ◌+◌, ◌-◌, ◌*◌, ◌/◌, ◌<◌, ◌≤◌, ◌||◌, ◌^◌, ◌==◌, Bool, true, false, List, [], ◌∷◌, ◌++◌, String, ap, arith, drop, get_or, length, map, min, refl, subst, sym, take, take-append-drop, Option, None, Some}
+use Rattle.std.proofs.Common.{◌≡◌, ◌∙◌, ℕ, ◌+◌, ◌-◌, ◌*◌, ◌/◌, ◌<◌, ◌≤◌, ◌||◌, ◌^◌, ◌==◌, Bool, false, List, [], ◌∷◌, ◌++◌, String, ap, arith, drop, get_or, length, min, subst, sym, take, take-append-drop, Option, None, Some}
 use Rattle.std.specs.Prelude.{max, nat_le}
 use Rattle.std.proofs.Math.Nat.{le-div_iff_mul-le, mul_comm}
 use Rattle.std.proofs.lemmas.Bool.Decides.{nat_tests}
@@ -164,7 +164,7 @@ removed_by-more stretches i within =
 
 -- a text of so many symbols fits in place of each of `count` stretches, if it has at most its share
 -- of the room for all
-pub share_is : (count symbols others removed maximum : ℕ) → 0 < count →
+share_is : (count symbols others removed maximum : ℕ) → 0 < count →
     nat_le symbols (max (maximum - others) removed / count) ≡ (nat_le (count * symbols) removed || nat_le (others + count * symbols) maximum)
 share_is count symbols others removed maximum some =
     let room = max (maximum - others) removed in

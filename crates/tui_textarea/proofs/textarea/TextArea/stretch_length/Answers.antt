@@ -1,4 +1,4 @@
-use Rattle.std.proofs.Common.{◌≡◌, ◌∙◌, ap, arith}
+use Rattle.std.proofs.Common.{◌∙◌, ap, arith}
 use Rattle.textarea_text.specs.Text.{text_of}
 use Rattle.tui_textarea.proofs.Fitting.{rows_ordered, size-between-le}
 use Rattle.tui_textarea.proofs.textarea.TextArea.stretch_length.Goals as goal
