@@ -46,6 +46,7 @@ mod Lifted
 mod Unedited
 mod ReadOnly
 mod Guarded
+pub mod Fitting
 mod Unselected
 mod CursorLine
 pub mod CallWraps

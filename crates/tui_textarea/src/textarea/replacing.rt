@@ -181,7 +181,8 @@ impl TextArea<'_> {
         if self.settings.max_chars.is_none() {
             return Ok(fragment_lines);
         }
-        let others = self.symbol_count() - self.stretch_length(from, to)?;
+        let removed = self.stretch_length(from, to)?;
+        let others = self.symbol_count() - removed;
         self.fitting(fragment_lines, others)
     }
 
