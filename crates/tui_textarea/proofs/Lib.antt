@@ -9,6 +9,7 @@ mod Rects
 mod Rendering
 mod Widths
 mod Acting
+mod Admitted
 pub mod Ahead
 pub mod Copying
 mod Filled

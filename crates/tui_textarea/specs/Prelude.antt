@@ -86,4 +86,4 @@ pub use Rattle.tui_textarea.specs.Selection.{IsInsertOutOfMemory, all_selected, 
 pub use Rattle.tui_textarea.specs.State.{State, default_settings, new_state, text_of_each, with_change_log, with_changes_taken, with_document, with_other_lines}
 pub use Rattle.tui_textarea.specs.TextAreaLaw.{HasRowsFromScratch, PastesCopy}
 pub use Rattle.tui_textarea.specs.Matches.{AreInTextOrder, LeadsToFirstMatch, LeadsToMatchAfter}
-pub use Rattle.tui_textarea.specs.TypedLine.{IsTypedLine}
+pub use Rattle.tui_textarea.specs.TypedLine.{IsTypedLine, with_character}

@@ -1,9 +1,10 @@
 //! Insertions. Each but `duplicate_line` first removes the selected text, as its own edit, and then
 //! moves a cursor that is strictly inside an atomic range to the range's end. With grouping on, both
 //! edits are one group.
-ghost use Rattle.std.specs.Prelude.{◌≡◌, ◌<◌, OnOk, OnErr, IsOk, IfOk, true, false, not, [], replicate, vec_len, ◌&&◌, if◌then◌else◌};
+ghost use Rattle.std.specs.Prelude.{◌≡◌, ◌<◌, OnOk, OnErr, IsOk, IfOk, true, false, not, [], length, replicate, vec_len, ◌&&◌, if◌then◌else◌};
 ghost use Rattle.std.specs.Arc.{arc_value};
 ghost use Rattle.std.specs.Str.{chars};
+ghost use Rattle.tui_textarea.specs.Fitting.{fitting_beside};
 ghost use Rattle.textarea_document.specs.Selection.{first_selected_row, last_selected_row, lines_duplicated, with_lines_again};
 ghost use Rattle.tui_textarea.specs.Prelude.{Character, lines, with_document, text_of, has_symbols, is_selected, fragment_symbols, pasted_symbols, inserts_tab, inserts_text, symbols_or_none_inserted, spaces_to_stop, char_inserted, char_or_break_inserted, line_broken, newline_inserted, tab_inserted, tab_or_spaces_inserted, str_inserted, IsInsertOutOfMemory, selection_cancelled, unselected, admitted_over_selection, bars_break, bars_character, bars_duplicate, bars_tab, fitting_selection, fitting_spaces, is_editable, unless_read_only};
 
@@ -227,8 +228,23 @@ impl TextArea<'_> {
         ensures err { OnErr result (IsInsertOutOfMemory self.old self.new) }
     {
         self.document.remove_selection(self.time)?;
-        let fitting = self.fitting(fragment_lines, self.symbol_count())?;
+        let fitting = self.fitting_fragment(fragment_lines)?;
         self.document.insert(fitting, self.time)
+    }
+
+    // Returns what fits of the fragment into the text as it is.
+    fn fitting_fragment(
+        &self,
+        fragment_lines: Arc<Vec<String>>,
+    ) -> Result<Arc<Vec<String>>, AllocError>
+        ensures { IfOk result (λ fitting. text_of (arc_value fitting).items ≡ fitting_beside
+            self.now.settings.max_chars (length self.now.document.text)
+            (text_of (arc_value fragment_lines).items)) }
+    {
+        if self.settings.max_chars.is_none() {
+            return Ok(fragment_lines);
+        }
+        self.fitting(fragment_lines, self.symbol_count())
     }
 
     /// Inserts the cursor's line once more below it, or the lines of the selection below the last of

@@ -120,9 +120,9 @@ impl TextArea<'_> {
     /// before, so nothing can be undone. `set_max_histories` with twice the number of matches makes
     /// room for them; since it forgets all edits, it is best called before the first one.
     pub fn replace_all(&mut self, text: &str) -> Result<usize, AllocError>
-        ensures count { IfOk result (λ count. count ≡ (if bars_each self.old text then 0 else
+        ensures count { IfOk result (λ count. count ≡ (if bars_each self.old text.entry then 0 else
             length (replaceable self.old))) }
-        ensures ok { OnOk result (self.new ≡ (if bars_each self.old text then self.old else matches_replaced
+        ensures ok { OnOk result (self.new ≡ (if bars_each self.old text.entry then self.old else matches_replaced
             self.old (admitted self.old (fragment_symbols (chars text.now))))) }
         ensures err { OnErr result (self.new ≡ self.old) }
         ensures no_pattern { self.old.pattern ≡ None → IsOk result }
@@ -178,6 +178,9 @@ impl TextArea<'_> {
             ≡ admitted_between self.now from to (fragment_symbols (chars text.now))) }
     {
         let fragment_lines = self.admitted_fragment(text)?;
+        if self.settings.max_chars.is_none() {
+            return Ok(fragment_lines);
+        }
         let others = self.symbol_count() - self.stretch_length(from, to)?;
         self.fitting(fragment_lines, others)
     }
