@@ -71,18 +71,20 @@ pastes_copy state editable e place ordered =
     begun : State
     begun = call_begun after
 
+    -- the document without what is selected, if a text is
+    removed_if : DocumentState → Bool → DocumentState
+    removed_if document b = cond b (between_removed document (selection_start document) (selection_end document) state.time) document
+
     -- nothing is selected after the copy
     fits : admitted_over_selection after after.yank ≡ copy_pasted state
     fits =
-        ap (λ (b : Bool). fitting_beside state.settings.max_chars (length (cond b (between_removed after.document (selection_start after.document) (selection_end after.document) after.time) after.document).text) (admitted state (selected state.document)))
-        (none_selected state.document)
+        ap (λ (b : Bool). fitting_beside state.settings.max_chars (length (removed_if after.document b).text) (admitted state (selected state.document))) (none_selected state.document)
 
     reached : copied_and_pasted state ≡ call_ended after (symbols_or_none_inserted begun (copy_pasted state))
     reached =
         ap (λ (s : State). unless_read_only s (str_inserted s (admitted_over_selection s s.yank))) copied_is
         ∙ cond-false state.settings.read_only after (str_inserted after (admitted_over_selection after after.yank)) (not-true state.settings.read_only editable)
-        ∙ ap (λ b. call_ended after (symbols_or_none_inserted (with_document begun (cond b (between_removed begun.document (selection_start begun.document) (selection_end begun.document) begun.time) begun.document)) (admitted_over_selection after after.yank)))
-        (none_selected state.document)
+        ∙ ap (λ b. call_ended after (symbols_or_none_inserted (with_document begun (removed_if begun.document b)) (admitted_over_selection after after.yank))) (none_selected state.document)
         ∙ ap (λ (s : List Symbol). call_ended after (symbols_or_none_inserted begun s)) fits
 
     some : 0 < length (selected state.document)

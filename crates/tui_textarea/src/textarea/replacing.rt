@@ -39,7 +39,8 @@ impl TextArea<'_> {
         text: &str,
     ) -> Result<bool, AllocError>
         ensures replaced { IfOk result (λ replaced. replaced ≡ (is_editable self.old && replaces
-            self.old.document.text from to (admitted_between self.old from to (fragment_symbols (chars text.now))))) }
+            self.old.document.text from to
+            (admitted_between self.old from to (fragment_symbols (chars text.now))))) }
         ensures ok { OnOk result (self.new ≡ unless_read_only self.old (with_range_replaced self.old
             from to (admitted_between self.old from to (fragment_symbols (chars text.now))))) }
         ensures err { OnErr result (self.new ≡ self.old) }
@@ -59,7 +60,8 @@ impl TextArea<'_> {
         text: &str,
     ) -> Result<bool, AllocError>
         ensures replaced { IfOk result (λ replaced. replaced
-            ≡ replaces self.old.document.text from to (admitted_between self.old from to (fragment_symbols (chars text.now)))) }
+            ≡ replaces self.old.document.text from to
+            (admitted_between self.old from to (fragment_symbols (chars text.now)))) }
         ensures ok { OnOk result (self.new
             ≡ with_range_replaced self.old
             from to (admitted_between self.old from to (fragment_symbols (chars text.now)))) }
@@ -122,8 +124,8 @@ impl TextArea<'_> {
     pub fn replace_all(&mut self, text: &str) -> Result<usize, AllocError>
         ensures count { IfOk result (λ count. count ≡ (if bars_each self.old text.entry then 0 else
             length (replaceable self.old))) }
-        ensures ok { OnOk result (self.new ≡ (if bars_each self.old text.entry then self.old else matches_replaced
-            self.old (admitted self.old (fragment_symbols (chars text.now))))) }
+        ensures ok { OnOk result (self.new ≡ (if bars_each self.old text.entry then self.old else
+            matches_replaced self.old (admitted self.old (fragment_symbols (chars text.now))))) }
         ensures err { OnErr result (self.new ≡ self.old) }
         ensures no_pattern { self.old.pattern ≡ None → IsOk result }
         ensures read_only { is_editable self.old ≡ false → IsOk result }
@@ -137,7 +139,8 @@ impl TextArea<'_> {
     // The same, whether the text area is read only or not.
     fn replace_all_unguarded(&mut self, text: &str) -> Result<usize, AllocError>
         ensures count { IfOk result (λ count. count ≡ (if fits_each self.old (replaceable self.old)
-            (admitted self.old (fragment_symbols (chars text.now))) then length (replaceable self.old) else 0)) }
+            (admitted self.old (fragment_symbols (chars text.now))) then
+            length (replaceable self.old) else 0)) }
         ensures ok { OnOk result (self.new ≡ (if fits_each self.old (replaceable self.old)
             (admitted self.old (fragment_symbols (chars text.now))) then matches_replaced self.old
             (admitted self.old (fragment_symbols (chars text.now))) else self.old)) }
