@@ -1,5 +1,5 @@
 -- A copy and a paste after it.
-use Rattle.std.proofs.Common.{◌≡◌, ℕ, ◌<◌, ◌==◌, ◌&&◌, ◌||◌, nat_lt, cond, map, true, false, List, [], ◌∷◌, length, Option, None, Some, ap, sym, refl, subst, ◌∙◌, arith}
+use Rattle.std.proofs.Common.{◌≡◌, ℕ, ◌<◌, ◌==◌, ◌&&◌, ◌||◌, Bool, nat_lt, cond, map, true, false, List, [], ◌∷◌, length, Option, None, Some, ap, sym, refl, subst, ◌∙◌, arith}
 use Rattle.std.specs.Option.{IfSome, MatchOption}
 use Rattle.std.proofs.lemmas.Bool.Decides.{nat_tests}
 use Rattle.textarea_text.specs.Text.{Symbol}
@@ -64,12 +64,15 @@ pastes_copy state editable e place ordered =
     begun : State
     begun = call_begun after
 
+    -- the document without what is selected, if a text is
+    removed_if : Bool → DocumentState
+    removed_if b = cond b (between_removed begun.document (selection_start begun.document) (selection_end begun.document) begun.time) begun.document
+
     reached : copied_and_pasted state ≡ call_ended after (symbols_or_none_inserted begun (admitted state (selected state.document)))
     reached =
         ap (λ (s : State). unless_read_only s (str_inserted s (admitted s s.yank))) copied_is
         ∙ cond-false state.settings.read_only after (str_inserted after (admitted after after.yank)) (not-true state.settings.read_only editable)
-        ∙ ap (λ b. call_ended after (symbols_or_none_inserted (with_document begun (cond b (between_removed begun.document (selection_start begun.document) (selection_end begun.document) begun.time) begun.document)) (admitted after after.yank)))
-        (none_selected state.document)
+        ∙ ap (λ b. call_ended after (symbols_or_none_inserted (with_document begun (removed_if b)) (admitted after after.yank))) (none_selected state.document)
 
     some : 0 < length (selected state.document)
     some = between_some state.document.text (selection_start state.document) (selection_end state.document) place ordered
