@@ -8,8 +8,8 @@ ghost use Rattle.tui_textarea.specs.Fitting.{fits_each};
 ghost use Rattle.tui_textarea.specs.Replacing.{match_at_cursor, match_replaced, match_replaced_by, matches_replaced, replaceable, with_range_replaced};
 
 use crate::matches::{match_at, replaceable_in};
-use crate::textarea::guards::symbol_count;
 use crate::textarea::TextArea;
+use crate::textarea::guards::symbol_count;
 use std::alloc::AllocError;
 use std::sync::Arc;
 use textarea_search::search::TextMatch;
