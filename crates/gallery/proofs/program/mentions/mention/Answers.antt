@@ -1,6 +1,6 @@
 use Rattle.std.proofs.Common.{◌≡◌, ◌++◌, [], ◌∷◌, List, refl, ap, ◌∙◌, subst, sym}
 use Rattle.std.specs.Str.{chars}
-use Rattle.std.proofs.lemmas.Bool.{cond-false, not-false}
+use Rattle.std.proofs.lemmas.Bool.{cond-false}
 use Rattle.textarea_data.specs.declared.range.AtomicRange.{AtomicRange}
 use Rattle.textarea_calls.specs.declared.call.Call.TheVariants as call
 use Rattle.tui_textarea.specs.Calls.{result_of_call}
@@ -48,7 +48,7 @@ returns c whole =
     whole_over old mid (splices_of old made) sound (c.ranges_follow_each_call.ensures.made old mid made (result_of_call old made) sound refl c.in_ok-insert_str.ensures.ok).0 whole in
     let name = c.args.name.now in
     let symbols = fragment_symbols (chars name) in
-    let takes = takes_whole_names old (sym c.takes_whole_names.ensures ∙ not-false c.takes_whole_names.result c.if-not-takes_whole_names.false) in
+    let takes = takes_whole_names old (sym c.takes_whole_names.ensures ∙ c.if-not-takes_whole_names.false) in
     let same = name_admitted old name c.requires takes in
     let place = c.cursor-row.result in
     let range : AtomicRange = record { row = place.0; start_col = c.saturating_sub-start_col.result; end_col = place.1 } in
