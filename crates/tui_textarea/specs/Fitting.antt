@@ -27,6 +27,10 @@ abbrev pub fitting_beside : Option ℕ → ℕ → List Symbol → List Symbol
 fitting_beside None others symbols = symbols
 fitting_beside (Some maximum) others symbols = beginning symbols (maximum - others)
 
+-- what fits of it into the text
+abbrev pub fitting_here : State → List Symbol → List Symbol
+fitting_here state symbols = fitting_beside state.settings.max_chars (length state.document.text) symbols
+
 -- what fits of it in place of the selected text
 abbrev pub fitting_selection : State → List Symbol → List Symbol
 fitting_selection state symbols =
@@ -68,7 +72,7 @@ fits_duplicate state =
 -- a tab fits at the start of each of these lines
 abbrev pub fits_indent : State → Bool
 fits_indent state =
-    fits_for state 0 (length (line_stretches state.document false) * length (tab_of state.document state.settings.hard_tab_indent))
+    fits_for state 0 (length (line_stretches state.document None) * length (tab_of state.document state.settings.hard_tab_indent))
 
 -- the symbols fit in place of each of these stretches
 abbrev pub removed_by : List (ℕ × ℕ) → ℕ
