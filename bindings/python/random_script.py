@@ -73,6 +73,7 @@ def command(r):
         lambda: f"hit {r.randrange(30)} {r.randrange(12)}",
         lambda: f"set_wrap_mode {pick(['None', 'Word', 'Glyph', 'WordOrGlyph'])}",
         lambda: f"set_mask_char {pick(CHARS[:2] + ['•'])}",
+        lambda: f"set_cursor_unit {pick(['Character', 'Cluster'])}",
         lambda: f"set_max_chars {pick(['None', 'None', '3', '12'])}",
         lambda: f"line_numbers {pick(['true', 'false'])}",
         lambda: f"now {r.randrange(5000)}",
