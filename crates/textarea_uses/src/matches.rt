@@ -2,18 +2,19 @@
 //! listed exactly once, in the order of the text.
 ghost use Rattle.std.specs.Prelude.{◌≡◌, ◌++◌, ◌∷◌, [], IfOk, List, OnOk, false, true};
 ghost use Rattle.textarea_search.specs.Starts.{is_later};
-ghost use Rattle.tui_textarea.specs.Matches.{HasPassed};
-ghost use Rattle.tui_textarea.specs.Prelude.{Place, starts_in};
+ghost use Rattle.tui_textarea.specs.Matches.{HasPassed, StaysAtStarts};
+ghost use Rattle.tui_textarea.specs.Prelude.{Place, match_starts};
 
 use std::alloc::AllocError;
 use tui_textarea::TextArea;
 use tui_textarea::laws::matches_in_order;
 
 /// Steps through all matches of the search pattern, from the text's start on, and returns where they
-/// start. The cursor is then at the first one again.
+/// start. The cursor is then at the first one again. If it goes by clusters, no match may begin inside
+/// an atomic range.
 pub fn all_matches(area: &mut TextArea<'_>) -> Result<Vec<(usize, usize)>, AllocError>
-    ensures { IfOk result (λ places. places.items
-        ≡ starts_in area.old.pattern area.old.document.text) }
+    ensures { StaysAtStarts area.old → IfOk result
+        (λ places. places.items ≡ match_starts area.old) }
 {
     let mut places = Vec::new(area.allocator());
     matches_in_order(area);
@@ -30,7 +31,7 @@ pub fn all_matches(area: &mut TextArea<'_>) -> Result<Vec<(usize, usize)>, Alloc
 fn step(area: &mut TextArea<'_>, places: &mut Vec<(usize, usize)>) -> Result<bool, AllocError>
     ensures listed { OnOk result (places.new.items
         ≡ places.old.items ++ area.old.document.cursor ∷ []) }
-    ensures passed { (starts : List Place) → HasPassed starts places.old.items true area.old →
+    ensures passed { (starts : List Place) → StaysAtStarts area.old → HasPassed starts places.old.items true area.old →
         IfOk result (λ after. HasPassed starts places.new.items after area.new) }
 {
     matches_in_order(area);

@@ -21,7 +21,9 @@ use Rattle.textarea_document.specs.Replacing.{stretch_symbols}
 use Rattle.textarea_document.specs.Selection.{is_selected, lines_duplicated, selection_duplication}
 use Rattle.textarea_document.specs.Selection as document_selection
 use Rattle.textarea_document.specs.Splices.{break_splices, redo_splices, selected_splices, undo_splices}
+use Rattle.textarea_data.specs.declared.range.AtomicCursorBias.TheVariants.{Forward}
 use Rattle.tui_textarea.specs.State.{State, with_change_log, with_changes_taken, with_document, with_other_lines}
+use Rattle.tui_textarea.specs.Units.{settled}
 use Rattle.tui_textarea.specs.CallUnits.{settled_after}
 use Rattle.tui_textarea.specs.Splices.{ahead_splices, atomic_range_splices, char_splices, clear_splices, line_end_splices, line_head_splices, selected_splices_or, str_splices, symbol_after_splices, symbol_before_splices}
 use Rattle.tui_textarea.specs.Splices.{tab_splices, word_after_splices, word_before_splices}
@@ -62,7 +64,7 @@ ranges_result (range ∷ rejected) = Rejected (range ∷ rejected)
 
 -- the ranges are set if none is rejected, and otherwise nothing changes
 abbrev pub with_ranges_if : List RejectedAtomicRange → State → List AtomicRange → State
-with_ranges_if [] state ranges = ranges_accepted state ranges
+with_ranges_if [] state ranges = settled Forward (ranges_accepted state ranges)
 with_ranges_if (range ∷ rejected) state ranges = state
 
 -- the result of the call; of one that sets a pattern, if the pattern is accepted. The results of a

@@ -1,7 +1,7 @@
 -- Whole characters: where the cursor and the anchor may be, and how far a removal reaches, in a text
 -- area whose cursor goes by grapheme clusters.
-use Rattle.std.specs.Prelude.{◌≡◌, ℕ, ◌+◌, ◌-◌, ◌==◌, Bool, true, false, List, [], ◌∷◌, Option, None, Some, IfSome, option_map, if◌then◌else◌}
-use Rattle.textarea_text.specs.Place.{Place, end, is_before}
+use Rattle.std.specs.Prelude.{◌≡◌, ℕ, ◌+◌, ◌-◌, ◌==◌, All, true, false, List, [], ◌∷◌, Option, None, Some, IfSome, option_map, if◌then◌else◌}
+use Rattle.textarea_text.specs.Place.{Place, end, is_before, place_of}
 use Rattle.textarea_text.specs.Splice.{Splice}
 use Rattle.textarea_text.specs.Text.{lines}
 use Rattle.textarea_data.specs.declared.cursor.CursorUnit.{CursorUnit}
@@ -113,12 +113,21 @@ whole_stretch_by unit.Cluster document from to =
 abbrev pub whole_stretch : State → Place → Place → Place × Place
 whole_stretch state from to = whole_stretch_by state.settings.cursor_unit state.document from to
 
+-- the cursor goes by clusters
+abbrev pub GoesByClusters : State → Type 0
+GoesByClusters state = state.settings.cursor_unit ≡ unit.Cluster
+
 -- ---- what removals take
 
 -- the removal begins and ends where neither a cluster nor a range of the text contains the position
 pub record TakesWholeClusters (document : DocumentState) (splice : Splice) : Type 0 where
   pub start : IsAtStop document splice.place
   pub stop : IsAtStop document (end splice.place splice.symbols)
+
+-- the same of stretches of the text, each from one number of symbols to another
+abbrev pub AreWholeStretches : DocumentState → List (ℕ × ℕ) → Type 0
+AreWholeStretches document stretches =
+    All (λ stretch. IsAtStop document (place_of document.text stretch.0) × IsAtStop document (place_of document.text stretch.1)) stretches
 
 -- the first splice, if it removes
 abbrev pub FirstTakesWhole : DocumentState → List Splice → Type 0

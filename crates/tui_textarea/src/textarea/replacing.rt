@@ -157,6 +157,7 @@ impl TextArea<'_> {
     {
         let stretches = self.replaceable()?;
         if stretches.is_empty() {
+            self.settle(AtomicCursorBias::Forward);
             return Ok(0);
         }
         let fragment_lines = self.admitted_fragment(text)?;
