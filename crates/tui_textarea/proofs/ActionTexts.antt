@@ -29,7 +29,8 @@ use Rattle.tui_textarea.proofs.EachSymbol.{InsertOnly, only_after_splices, only_
 use Rattle.tui_textarea.proofs.RangesOverActions.{past_follows, reckoning_of}
 use Rattle.tui_textarea.proofs.RangesOverCalls.{TheLaws}
 use Rattle.tui_textarea.proofs.Runs.{OneInput}
-use Rattle.tui_textarea.proofs.Stepping.{layout_and_ranges, selected_by}
+use Rattle.tui_textarea.proofs.Settling.{layout_and_ranges}
+use Rattle.tui_textarea.proofs.Stepping.{selected_by}
 
 -- ---- the splices of an action
 

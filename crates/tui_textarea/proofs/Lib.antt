@@ -33,10 +33,13 @@ mod OneAct
 mod Removing
 mod Targets
 mod FoundPlaces
+mod WholeStarts
 mod StaysSound
 mod SoundStates
 mod TextFailures
 mod Cases
+pub mod Settling
+pub mod WholeRemovals
 mod WrappedLines
 mod Stepping
 mod Replacing

@@ -27,6 +27,8 @@ use Rattle.tui_textarea.specs.Grouping.{with_group}
 use Rattle.tui_textarea.specs.Moves.{after_move_by, anchor_with, bias_of, pushed}
 use Rattle.tui_textarea.specs.Search.{after_search}
 use Rattle.tui_textarea.specs.State.{State}
+use Rattle.tui_textarea.specs.Ranges.{ranges_accepted}
+use Rattle.tui_textarea.proofs.Settling.{sound_settled}
 use Rattle.tui_textarea.proofs.Targets.{clip_is_place}
 
 pub sound_at : (document : DocumentState) (cursor : Place) (anchor : Option Place) → IsSound document → IsPlace document.text cursor
@@ -89,7 +91,8 @@ sound_ranges [] state ranges h none =
     let document = state.document in
     let sorted = in_order ranges in
     let valid : AreValid (lines document.text) sorted = valid-none_rejected (lines document.text) ranges none in
-    record {
+    sound_settled Forward (ranges_accepted state ranges)
+    (record {
       cursor = IsPlaceOf-moved_out (lines document.text) sorted document.cursor Forward valid h.cursor;
       anchor = anchor_place document.text sorted document.anchor (moved_out sorted document.cursor Forward) valid h.anchor;
       ranges = valid;
@@ -99,7 +102,7 @@ sound_ranges [] state ranges h none =
       bounded = h.bounded;
       marks = h.marks;
       whole = h.whole;
-    }
+    })
 sound_ranges (range ∷ rejected) state ranges h some = h
 
 pub sound_settings : (document : DocumentState) (settings : LayoutSettings) → IsSound document → IsSound (with_layout_settings document settings)
