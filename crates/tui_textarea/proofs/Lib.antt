@@ -35,6 +35,8 @@ mod Targets
 mod FoundPlaces
 mod WholeStarts
 mod StaysSound
+mod SettledCalls
+mod SettledRuns
 mod SoundStates
 mod TextFailures
 mod Cases

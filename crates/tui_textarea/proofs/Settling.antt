@@ -36,7 +36,24 @@ by_unit P bias state character cluster = by state.settings.cursor_unit refl
     by unit.Character is = character is
     by unit.Cluster is = cluster is
 
+-- while the cursor goes by characters it is the state itself
+pub settled_by_characters : (bias : AtomicCursorBias) (state : State) → state.settings.cursor_unit ≡ unit.Character → settled bias state ≡ state
+unfolding settled
+settled_by_characters bias state is = ap (λ (found : CursorUnit). settled_by found bias state) is
+
 -- ---- what stays
+
+pub settled_log : (bias : AtomicCursorBias) (state : State) → (settled bias state).document.log ≡ state.document.log
+settled_log bias state = by_unit (λ s. s.document.log ≡ state.document.log) bias state (λ is. refl) (λ is. refl)
+
+pub settled_settings : (bias : AtomicCursorBias) (state : State) → (settled bias state).settings ≡ state.settings
+settled_settings bias state = by_unit (λ s. s.settings ≡ state.settings) bias state (λ is. refl) (λ is. refl)
+
+-- the settled state is the state with some cursor and anchor
+pub settled_as : (bias : AtomicCursorBias) (state : State)
+    → settled bias state ≡ with_document state (record state.document { cursor = (settled bias state).document.cursor; anchor = (settled bias state).document.anchor })
+settled_as bias state =
+    by_unit (λ s. s ≡ with_document state (record state.document { cursor = s.document.cursor; anchor = s.document.anchor })) bias state (λ is. refl) (λ is. refl)
 
 pub settled_layout : (bias : AtomicCursorBias) (state : State) → layout_and_ranges (settled bias state).document ≡ layout_and_ranges state.document
 settled_layout bias state = by_unit (λ s. layout_and_ranges s.document ≡ layout_and_ranges state.document) bias state (λ is. refl) (λ is. refl)

@@ -85,14 +85,12 @@ sound_search state (Some place) h at = sound_at state.document place state.docum
 
 -- ---- ranges and settings
 
-pub sound_ranges : (rejected : List RejectedAtomicRange) (state : State) (ranges : List AtomicRange)
-    → IsSound state.document → rejected_ranges state ranges ≡ rejected → IsSound (with_ranges_if rejected state ranges).document
-sound_ranges [] state ranges h none =
+pub sound_accepted : (state : State) (ranges : List AtomicRange) → IsSound state.document → rejected_ranges state ranges ≡ [] → IsSound (ranges_accepted state ranges).document
+sound_accepted state ranges h none =
     let document = state.document in
     let sorted = in_order ranges in
     let valid : AreValid (lines document.text) sorted = valid-none_rejected (lines document.text) ranges none in
-    sound_settled Forward (ranges_accepted state ranges)
-    (record {
+    record {
       cursor = IsPlaceOf-moved_out (lines document.text) sorted document.cursor Forward valid h.cursor;
       anchor = anchor_place document.text sorted document.anchor (moved_out sorted document.cursor Forward) valid h.anchor;
       ranges = valid;
@@ -102,7 +100,11 @@ sound_ranges [] state ranges h none =
       bounded = h.bounded;
       marks = h.marks;
       whole = h.whole;
-    })
+    }
+
+pub sound_ranges : (rejected : List RejectedAtomicRange) (state : State) (ranges : List AtomicRange)
+    → IsSound state.document → rejected_ranges state ranges ≡ rejected → IsSound (with_ranges_if rejected state ranges).document
+sound_ranges [] state ranges h none = sound_settled Forward (ranges_accepted state ranges) (sound_accepted state ranges h none)
 sound_ranges (range ∷ rejected) state ranges h some = h
 
 pub sound_settings : (document : DocumentState) (settings : LayoutSettings) → IsSound document → IsSound (with_layout_settings document settings)

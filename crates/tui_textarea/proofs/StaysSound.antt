@@ -16,7 +16,7 @@ use Rattle.tui_textarea.specs.Calls.{state_after, unguarded_after}
 use Rattle.tui_textarea.specs.Drawing.{viewport_scrolled}
 use Rattle.tui_textarea.specs.Input.{IsAfterAction, asked_by, asked_without_shortcuts}
 use Rattle.textarea_data.specs.declared.range.AtomicCursorBias.TheVariants.{Forward}
-use Rattle.tui_textarea.specs.Moves.{IsMovedWith, bias_of, pushed}
+use Rattle.tui_textarea.specs.Moves.{IsMovedWith, after_move_by, bias_of, pushed}
 use Rattle.tui_textarea.specs.Selection.{unselected}
 use Rattle.tui_textarea.specs.Outcomes.{IsAfterCall, IsAfterOutOfMemory}
 use Rattle.tui_textarea.specs.State.{State}
@@ -54,11 +54,11 @@ state_stays_sound old made h can = (by_state Any Any any past_any old made h).1 
 module _ (leads : LeadsToPlaces) where
   sound_moved : (old new : State) (shift : Bool) (cursor_move : CursorMove) → HasSound old → IsMovedWith old shift cursor_move new → HasSound new
   sound_moved old new shift cursor_move h k =
-      let to = k.moved_is in
+      let found = pushed old.document.ranges cursor_move k.found in
       subst HasSound (sym k.new_is)
-      (sound_settled (bias_of cursor_move) k.moved
-      (subst HasSound (sym to.new_is) (sound_goes old shift (pushed old.document.ranges cursor_move to.found) h
-      (pushed_is_place old.document.text old.document.ranges cursor_move to.found h.ranges (target_is_place leads old cursor_move to.found h.cursor to.target_is)))))
+      (sound_settled (bias_of cursor_move) (after_move_by old shift found)
+      (sound_goes old shift found h
+      (pushed_is_place old.document.text old.document.ranges cursor_move k.found h.ranges (target_is_place leads old cursor_move k.found h.cursor k.target_is))))
 
   act_stays_sound : (old new : State) (asked : Action) → HasSound old → IsAfterAction old asked new → HasSound new
   act_stays_sound old new (action.MoveWithShift cursor_move shift) h k = sound_moved old new shift cursor_move h k
@@ -83,9 +83,13 @@ module _ (leads : LeadsToPlaces) where
 
 -- ---- calls that run out of memory
 
+-- the removal of the selected text
+pub selection_stays_sound : (old : State) → HasSound old → HasSound (unselected old)
+selection_stays_sound old h = (selected_by Any any old.document old.time h).1
+
 pub out_of_memory_stays_sound : (old new : State) (made : Call) → HasSound old → IsAfterOutOfMemory old made new → HasSound new
 out_of_memory_stays_sound old new made h k =
     ⊎_elim
     (λ same. subst HasSound (sym same) h)
-    (λ gone. subst HasSound (sym gone) (sound_settled Forward (unselected old) (selected_by Any any old.document old.time h).1))
+    (λ gone. subst HasSound (sym gone) (sound_settled Forward (unselected old) (selection_stays_sound old h)))
     (left old new made k)

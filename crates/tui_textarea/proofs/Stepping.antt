@@ -56,10 +56,8 @@ move_unchanged state shift (Some place) = refl
 pub moves_unchanged : (old new : State) (shift : Bool) (cursor_move : CursorMove) → IsMovedWith old shift cursor_move new
     → layout_and_ranges new.document ≡ layout_and_ranges old.document
 moves_unchanged old new shift cursor_move h =
-    ap (λ (s : State). layout_and_ranges s.document) h.new_is
-    ∙ settled_layout (bias_of cursor_move) h.moved
-    ∙ ap (λ (s : State). layout_and_ranges s.document) h.moved_is.new_is
-    ∙ move_unchanged old shift (pushed old.document.ranges cursor_move h.moved_is.found)
+    let found = pushed old.document.ranges cursor_move h.found in
+    ap (λ (s : State). layout_and_ranges s.document) h.new_is ∙ settled_layout (bias_of cursor_move) (after_move_by old shift found) ∙ move_unchanged old shift found
 
 -- ---- steps
 

@@ -44,7 +44,8 @@ moved old shift (Some place) = refl
 
 moved_with : (old : State) (shift : Bool) (cursor_move : CursorMove) (new : State) → IsMovedWith old shift cursor_move new → SameText old new
 moved_with old shift cursor_move new h =
-    ap text h.new_is ∙ settled_text (bias_of cursor_move) h.moved ∙ ap text h.moved_is.new_is ∙ moved old shift (pushed old.document.ranges cursor_move h.moved_is.found)
+    let found = pushed old.document.ranges cursor_move h.found in
+    ap text h.new_is ∙ settled_text (bias_of cursor_move) (after_move_by old shift found) ∙ moved old shift found
 
 searched : (old : State) (found : Option Place) → SameText old (after_search old found)
 searched old None = refl

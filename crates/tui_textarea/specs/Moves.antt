@@ -59,9 +59,9 @@ pub record IsMovedTo (old : State) (shift : Bool) (cursor_move : CursorMove) (ne
 
 -- and after it cursor and anchor are inside no cluster if the cursor goes by clusters
 pub record IsMovedWith (old : State) (shift : Bool) (cursor_move : CursorMove) (new : State) : Type 0 where
-  pub moved : State
-  pub moved_is : IsMovedTo old shift cursor_move moved
-  pub new_is : new ≡ settled (bias_of cursor_move) moved
+  pub found : Option Place
+  pub target_is : IsTarget old cursor_move found
+  pub new_is : new ≡ settled (bias_of cursor_move) (after_move_by old shift (pushed old.document.ranges cursor_move found))
 
 -- the state after the call that goes to a position: the cursor is at the nearest position of the
 -- text, or at the end of the atomic range that strictly contains it

@@ -123,7 +123,7 @@ pub fn settled_states_stay()
     ensures out_of_memory { (old new : State) (call : Call) → IsSound old.document →
         IsSettled old → IsAfterOutOfMemory old call new → IsSettled new }
 {
-    each_call_stays_sound();
+    look_up_leads_back();
 }
 
 /// The same over every run of calls that can be made.
