@@ -13,6 +13,7 @@ pub mod Ahead
 pub mod Copying
 mod Filled
 pub mod Grouping
+mod SettledUndos
 mod UndoneAtOnce
 mod GroupsOfCalls
 mod ReplacedAtOnce
