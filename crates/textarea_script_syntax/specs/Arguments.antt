@@ -147,11 +147,11 @@ change_units =
 abbrev pub change_unit_named : List ℕ → Option (Option ChangeUnit)
 change_unit_named = named change_units
 
-abbrev pub cursor_units : List (List ℕ × CursorUnit)
-cursor_units = (codes "Character", cursor_unit.Character) ∷ (codes "Cluster", cursor_unit.Cluster) ∷ []
+abbrev pub cursor_unit_names : List (List ℕ × CursorUnit)
+cursor_unit_names = (codes "Character", cursor_unit.Character) ∷ (codes "Cluster", cursor_unit.Cluster) ∷ []
 
 abbrev pub cursor_unit_named : List ℕ → Option CursorUnit
-cursor_unit_named = named cursor_units
+cursor_unit_named = named cursor_unit_names
 
 abbrev pub modes : List (List ℕ × WrapMode)
 modes =

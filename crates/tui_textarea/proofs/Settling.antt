@@ -16,7 +16,7 @@ use Rattle.textarea_document.specs.Sound.{IsSound}
 use Rattle.textarea_document.proofs.Sounds.{sound_otherwise}
 use Rattle.tui_textarea.specs.Grouping.{call_ended, closed_if}
 use Rattle.tui_textarea.specs.State.{State, with_document}
-use Rattle.tui_textarea.specs.Units.{AreAtStops, IsAtStop, IsSettled, IsSettledBy, document_settled, settled_by, stop_of}
+use Rattle.tui_textarea.specs.Units.{AreAtStops, IsAtStop, IsSettled, IsSettledBy, document_settled, settled_for, stop_of}
 unfoldable use Rattle.tui_textarea.specs.Units.{settled}
 
 -- the visible side of a document's text: its layout and ranges, and its log of changes
@@ -32,14 +32,14 @@ pub by_unit : (P : State → Type 0) (bias : AtomicCursorBias) (state : State) �
 unfolding settled
 by_unit P bias state character cluster = by state.settings.cursor_unit refl
   where
-    by : (found : CursorUnit) → state.settings.cursor_unit ≡ found → P (settled_by found bias state)
+    by : (found : CursorUnit) → state.settings.cursor_unit ≡ found → P (settled_for found bias state)
     by unit.Character is = character is
     by unit.Cluster is = cluster is
 
 -- while the cursor goes by characters it is the state itself
 pub settled_by_characters : (bias : AtomicCursorBias) (state : State) → state.settings.cursor_unit ≡ unit.Character → settled bias state ≡ state
 unfolding settled
-settled_by_characters bias state is = ap (λ (found : CursorUnit). settled_by found bias state) is
+settled_by_characters bias state is = ap (λ (found : CursorUnit). settled_for found bias state) is
 
 -- ---- what stays
 
@@ -69,7 +69,7 @@ pub closed_settled : (opens : Bool) (bias : AtomicCursorBias) (state : State) �
 unfolding settled
 closed_settled opens bias state = by state.settings.cursor_unit
   where
-    by : (found : CursorUnit) → closed_if opens (settled_by found bias state) ≡ settled_by found bias (closed_if opens state)
+    by : (found : CursorUnit) → closed_if opens (settled_for found bias state) ≡ settled_for found bias (closed_if opens state)
     by unit.Character = refl
     by unit.Cluster = refl
 

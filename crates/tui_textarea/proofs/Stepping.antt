@@ -30,7 +30,7 @@ use Rattle.tui_textarea.specs.Grouping.{call_begun, call_ended}
 use Rattle.tui_textarea.specs.Guards.{has_several_lines, made_single, single_line_set}
 use Rattle.tui_textarea.specs.LayoutCalls.{tab_length}
 use Rattle.tui_textarea.specs.Moves.{IsMovedWith, after_move_by, bias_of, pushed}
-use Rattle.tui_textarea.specs.Ranges.{atomic_range_removed, range_removed}
+use Rattle.tui_textarea.specs.Ranges.{atomic_range_removed, whole_range_removed}
 use Rattle.tui_textarea.specs.Removals.{back_to_word_removed, cursor_line, cursor_range_removed_or, in_line, index_ahead, is_at_line_end, on_to_word_end_removed, removed_from, removed_up_to, symbol_after_removed, symbol_before_removed}
 use Rattle.tui_textarea.specs.Removals.{line_end_removed, line_head_removed, symbols_ahead_removed, text_cleared, unselected_or, word_after_removed, word_before_removed, yanked}
 use Rattle.tui_textarea.specs.Selection.{selection_cancelled, selection_copied, selection_cut, unselected}
@@ -228,7 +228,7 @@ module _ (By : DocumentState → List Splice → DocumentState → Type 0) (by :
       (λ empty. kept state.document state.document refl h)
 
   range_by : (state : State) (direction : AtomicDeleteDirection) (found : Option AtomicRange) → IsSound state.document
-      → range_at_cursor state.document direction ≡ found → Sound state.document (whole_range_splices_or found state []) (range_removed found state)
+      → range_at_cursor state.document direction ≡ found → Sound state.document (whole_range_splices_or found state []) (whole_range_removed found state)
   range_by state direction None h is = kept state.document state.document refl h
   range_by state direction (Some range) h is =
       let document = state.document in
@@ -236,7 +236,7 @@ module _ (By : DocumentState → List Splice → DocumentState → Type 0) (by :
       let stop = whole_end state (range_end range) in
       let left = between_removed document start stop state.time in
       let gone = between_by document start stop state.time h (removes_whole state _ _ h (range_removal_made document direction range h is)) in
-      moved document left (range_removed (Some range) state) (removal_splices document start stop) refl
+      moved document left (whole_range_removed (Some range) state) (removal_splices document start stop) refl
       (sound_from left (option_map (clip (lines left.text)) document.anchor) gone.1 (clipped left.text document.anchor (omega (arith, gone.1.cursor.0)))) gone
 
   pub cursor_range_by : (state : State) (direction : AtomicDeleteDirection) → IsSound state.document

@@ -13,7 +13,7 @@ use Rattle.textarea_document.specs.DocumentState.{DocumentState}
 use Rattle.textarea_document.specs.Edits.{HasEffect, Remove}
 use Rattle.textarea_document.specs.Sound.{IsSound}
 use Rattle.tui_textarea.specs.State.{State}
-use Rattle.tui_textarea.specs.Units.{column_after, column_before, earlier_start, earlier_start_by, if_elsewhere, later_end, later_end_by, stop_of, whole_by, whole_end, whole_start}
+use Rattle.tui_textarea.specs.Units.{past_cursor, before_cursor, earlier_start, earlier_start_by, if_elsewhere, later_end, later_end_by, stop_of, whole_by, whole_end, whole_start}
 use Rattle.tui_textarea.proofs.Settling.{stop_place}
 
 -- ---- stops and the positions that they replace
@@ -64,12 +64,12 @@ removes_whole state from to h made = removes_from_whole state from (whole_end st
 -- ---- beside the cursor
 
 -- the start of more than the character before the cursor
-back_made : (document : DocumentState) (found : Place) → IsSound document → found ≡ stop_of Backward document (column_before document)
-    → IfSome (if_elsewhere (column_before document) found) (λ start. HasEffect document (Remove start document.cursor))
-back_made document found h is = by (found.1 == (column_before document).1) refl
+back_made : (document : DocumentState) (found : Place) → IsSound document → found ≡ stop_of Backward document (before_cursor document)
+    → IfSome (if_elsewhere (before_cursor document) found) (λ start. HasEffect document (Remove start document.cursor))
+back_made document found h is = by (found.1 == (before_cursor document).1) refl
   where
     before : Place
-    before = column_before document
+    before = before_cursor document
 
     by : (same : Bool) → (found.1 == before.1) ≡ same → IfSome (if same then None else Some found) (λ start. HasEffect document (Remove start document.cursor))
     by true e = tt
@@ -88,15 +88,15 @@ earlier_made state h = by state.settings.cursor_unit
   where
     by : (found : CursorUnit) → IfSome (earlier_start_by found state.document) (λ start. HasEffect state.document (Remove start state.document.cursor))
     by unit.Character = tt
-    by unit.Cluster = back_made state.document (stop_of Backward state.document (column_before state.document)) h refl
+    by unit.Cluster = back_made state.document (stop_of Backward state.document (before_cursor state.document)) h refl
 
 -- the end of more than the character after the cursor
-ahead_made : (document : DocumentState) (found : Place) → IsSound document → found ≡ stop_of Forward document (column_after document)
-    → IfSome (if_elsewhere (column_after document) found) (λ stop. HasEffect document (Remove document.cursor stop))
-ahead_made document found h is = by (found.1 == (column_after document).1) refl
+ahead_made : (document : DocumentState) (found : Place) → IsSound document → found ≡ stop_of Forward document (past_cursor document)
+    → IfSome (if_elsewhere (past_cursor document) found) (λ stop. HasEffect document (Remove document.cursor stop))
+ahead_made document found h is = by (found.1 == (past_cursor document).1) refl
   where
     after : Place
-    after = column_after document
+    after = past_cursor document
 
     line : List ℕ
     line = line_of (lines document.text) document.cursor.0
@@ -120,4 +120,4 @@ later_made state h = by state.settings.cursor_unit
   where
     by : (found : CursorUnit) → IfSome (later_end_by found state.document) (λ stop. HasEffect state.document (Remove state.document.cursor stop))
     by unit.Character = tt
-    by unit.Cluster = ahead_made state.document (stop_of Forward state.document (column_after state.document)) h refl
+    by unit.Cluster = ahead_made state.document (stop_of Forward state.document (past_cursor state.document)) h refl

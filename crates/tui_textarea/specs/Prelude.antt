@@ -74,7 +74,7 @@ pub use Rattle.tui_textarea.specs.Measure.{IsMeasured, IsMeasuredAround, reads_r
 pub use Rattle.tui_textarea.specs.Moves.{IsMoved, gone_to, IsMovedTo, IsMovedWith, IsScrolled, IsScrolledWith, IsTarget, anchor_with, bias_of}
 pub use Rattle.tui_textarea.specs.Outcomes.{IsAfterCall, IsAfterOutOfMemory, IsResultOf, RanOutOfMemory}
 pub use Rattle.tui_textarea.specs.Patterns.{IsNewFailure}
-pub use Rattle.tui_textarea.specs.Ranges.{atomic_range_removed, range_removed, cursor_normalized, ranges_accepted, ranges_cleared}
+pub use Rattle.tui_textarea.specs.Ranges.{atomic_range_removed, whole_range_removed, cursor_normalized, ranges_accepted, ranges_cleared}
 pub use Rattle.tui_textarea.specs.RangesOverCalls.{IsUndoOrRedo, RangesFollowCall, RangesOfRun}
 pub use Rattle.tui_textarea.specs.Removals.{back_to_word_removed, break_before_removed, has_after, has_ahead, has_before, has_break_before, has_line_after, has_line_before}
 pub use Rattle.tui_textarea.specs.Removals.{has_word_after, has_word_before, index_ahead, line_end_removed, line_head_removed, on_to_word_end_removed, removes_or}

@@ -21,11 +21,11 @@ abbrev pub cursor_normalized : State → AtomicCursorBias → State
 cursor_normalized state bias = with_document state (normalized state.document bias)
 
 -- the range is removed, if there is one, with the clusters that it shares, and the selection stays
-abbrev pub range_removed : Option AtomicRange → State → DocumentState
-range_removed None state = state.document
-range_removed (Some range) state =
+abbrev pub whole_range_removed : Option AtomicRange → State → DocumentState
+whole_range_removed None state = state.document
+whole_range_removed (Some range) state =
     anchored (between_removed state.document (whole_start state (range_start range)) (whole_end state (range_end range)) state.time) state.document.anchor
 
 -- so is that at the cursor
 abbrev pub atomic_range_removed : State → AtomicDeleteDirection → State
-atomic_range_removed state direction = with_document state (range_removed (range_at_cursor state.document direction) state)
+atomic_range_removed state direction = with_document state (whole_range_removed (range_at_cursor state.document direction) state)

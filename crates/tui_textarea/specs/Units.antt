@@ -29,14 +29,14 @@ document_settled bias document = record document {
   anchor = option_map (stop_of Backward document) document.anchor;
 }
 
-abbrev pub settled_by : CursorUnit → AtomicCursorBias → State → State
-settled_by unit.Character bias state = state
-settled_by unit.Cluster bias state = with_document state (document_settled bias state.document)
+abbrev pub settled_for : CursorUnit → AtomicCursorBias → State → State
+settled_for unit.Character bias state = state
+settled_for unit.Cluster bias state = with_document state (document_settled bias state.document)
 
 -- the state after a call that led to this one: if the cursor goes by clusters, it and the anchor are
 -- moved out of what they are inside; a run of typing goes on
 unfoldable pub settled : AtomicCursorBias → State → State
-settled bias state = settled_by state.settings.cursor_unit bias state
+settled bias state = settled_for state.settings.cursor_unit bias state
 
 -- neither a cluster nor a range strictly contains the position
 abbrev pub IsAtStop : DocumentState → Place → Type 0
@@ -70,11 +70,11 @@ abbrev pub whole_end : State → Place → Place
 whole_end state place = whole_by state.settings.cursor_unit Forward state.document place
 
 -- the positions beside the cursor in its line
-abbrev pub column_before : DocumentState → Place
-column_before document = (document.cursor.0, document.cursor.1 - 1)
+abbrev pub before_cursor : DocumentState → Place
+before_cursor document = (document.cursor.0, document.cursor.1 - 1)
 
-abbrev pub column_after : DocumentState → Place
-column_after document = (document.cursor.0, document.cursor.1 + 1)
+abbrev pub past_cursor : DocumentState → Place
+past_cursor document = (document.cursor.0, document.cursor.1 + 1)
 
 -- the second position, if its column is another one
 abbrev pub if_elsewhere : Place → Place → Option Place
@@ -83,7 +83,7 @@ if_elsewhere place other = if other.1 == place.1 then None else Some other
 abbrev pub earlier_start_by : CursorUnit → DocumentState → Option Place
 earlier_start_by unit.Character document = None
 earlier_start_by unit.Cluster document =
-    if_elsewhere (column_before document) (stop_of Backward document (column_before document))
+    if_elsewhere (before_cursor document) (stop_of Backward document (before_cursor document))
 
 -- where the removal of the character before the cursor begins, if that is more than this character
 abbrev pub earlier_start : State → Option Place
@@ -92,7 +92,7 @@ earlier_start state = earlier_start_by state.settings.cursor_unit state.document
 abbrev pub later_end_by : CursorUnit → DocumentState → Option Place
 later_end_by unit.Character document = None
 later_end_by unit.Cluster document =
-    if_elsewhere (column_after document) (stop_of Forward document (column_after document))
+    if_elsewhere (past_cursor document) (stop_of Forward document (past_cursor document))
 
 -- where the removal of the character after the cursor ends, if that is more than this character
 abbrev pub later_end : State → Option Place

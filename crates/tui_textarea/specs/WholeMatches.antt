@@ -48,7 +48,7 @@ cuts_no_cluster row lines found =
     is_cluster_edge line found.columns.0 && is_cluster_edge line found.columns.1
 
 -- the match is in one of these lines
-pub record IsMatchIn (row : ℕ) (lines : List (List ℕ)) (found : TextMatch) : Type 0 where
+pub record IsMatchOfLines (row : ℕ) (lines : List (List ℕ)) (found : TextMatch) : Type 0 where
   pub row_from : row ≤ found.row
   pub row_before : found.row < row + length lines
   pub start : found.columns.0 ≤ length (line_of lines (found.row - row))

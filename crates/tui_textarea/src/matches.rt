@@ -8,7 +8,7 @@ ghost use Rattle.tui_textarea.specs.Prelude.{lines_of, size_limit, size_of};
 ghost use Rattle.textarea_search.specs.Counts.{index_at};
 ghost use Rattle.textarea_search.specs.Starts.{found_start, is_ahead, is_later};
 ghost use Rattle.textarea_search.specs.declared.search.direction.Direction.TheVariants.{Back};
-ghost use Rattle.tui_textarea.specs.WholeMatches.{IsMatchIn, begins_at, cluster_starts, cuts_no_cluster, cuts_no_range, indices_of, is_outside, match_at, replaceable_in, start_of_match, unit_matches, whole_matches};
+ghost use Rattle.tui_textarea.specs.WholeMatches.{IsMatchOfLines, begins_at, cluster_starts, cuts_no_cluster, cuts_no_range, indices_of, is_outside, match_at, replaceable_in, start_of_match, unit_matches, whole_matches};
 
 use std::alloc::{AllocError, Global};
 use textarea_clusters::edges::is_cluster_edge_from;
@@ -226,7 +226,7 @@ fn between_clusters(
     lines: &[String],
     matches: &[TextMatch],
 ) -> Result<Vec<TextMatch>, AllocError>
-    requires within { All (IsMatchIn first_row (lines_of lines.now)) matches.now }
+    requires within { All (IsMatchOfLines first_row (lines_of lines.now)) matches.now }
     ensures { IfOk result (λ kept. kept.items
         ≡ filter (cuts_no_cluster first_row (lines_of lines.now)) matches.now) }
 {

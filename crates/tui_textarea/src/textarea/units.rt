@@ -4,7 +4,7 @@ ghost use Rattle.std.specs.Prelude.{◌≡◌, ◌<◌, ◌≤◌, IfSome, optio
 ghost use Rattle.textarea_data.specs.declared.range.AtomicCursorBias.TheVariants.{Backward, Forward};
 ghost use Rattle.textarea_text.specs.Place.{is_before};
 ghost use Rattle.tui_textarea.specs.Prelude.{IsPlace, index_of, with_document};
-ghost use Rattle.tui_textarea.specs.Units.{IsAtStop, column_after, column_before, document_settled, earlier_start, if_elsewhere, later_end, settled, stop_of, whole_end, whole_start, whole_stretch, widened_stretch};
+ghost use Rattle.tui_textarea.specs.Units.{IsAtStop, past_cursor, before_cursor, document_settled, earlier_start, if_elsewhere, later_end, settled, stop_of, whole_end, whole_start, whole_stretch, widened_stretch};
 
 use crate::textarea::TextArea;
 use textarea_clusters::stops::{stop_ahead, stop_back};
@@ -122,8 +122,8 @@ impl TextArea<'_> {
     }
 
     fn stop_before(&self) -> Option<(usize, usize)>
-        ensures value { result ≡ if_elsewhere (column_before self.now.document)
-            (stop_of Backward self.now.document (column_before self.now.document)) }
+        ensures value { result ≡ if_elsewhere (before_cursor self.now.document)
+            (stop_of Backward self.now.document (before_cursor self.now.document)) }
         ensures place { IfSome result (IsPlace self.now.document.text) }
         ensures before { IfSome result (λ start. index_of self.now.document.text start
             < index_of self.now.document.text self.now.document.cursor) }
@@ -149,8 +149,8 @@ impl TextArea<'_> {
     }
 
     fn stop_after(&self) -> Option<(usize, usize)>
-        ensures value { result ≡ if_elsewhere (column_after self.now.document)
-            (stop_of Forward self.now.document (column_after self.now.document)) }
+        ensures value { result ≡ if_elsewhere (past_cursor self.now.document)
+            (stop_of Forward self.now.document (past_cursor self.now.document)) }
         ensures place { IfSome result (IsPlace self.now.document.text) }
         ensures after { IfSome result (λ stop.
             index_of self.now.document.text self.now.document.cursor
