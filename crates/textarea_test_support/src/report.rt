@@ -48,7 +48,11 @@ fn tell(differences: &mut Differences, area: &TextArea<'_>) -> Result<(), AllocE
     differences.flag(area.undo_grouping(), "undo_grouping")?;
     differences.flag(area.read_only(), "read_only")?;
     differences.flag(area.single_line(), "single_line")?;
-    differences.number(area.max_chars().unwrap_or(usize::MAX), usize::MAX, "max_chars")?;
+    differences.number(
+        area.max_chars().unwrap_or(usize::MAX),
+        usize::MAX,
+        "max_chars",
+    )?;
     differences.flag(area.cursor_unit() == CursorUnit::Cluster, "clusters")?;
     differences.number(area.max_histories(), 50, "max_histories")?;
     differences.mode(area.wrap_mode())?;

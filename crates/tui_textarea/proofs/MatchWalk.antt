@@ -170,8 +170,8 @@ begins_with_first state leads from new found stays at some is =
     let found_is : found ≡ is_some next = some ∙ ap (λ (s : State). is_some (next_match s true)) at in
     let new_is : new ≡ settled Forward (after_search start next) = is ∙ ap (λ (s : State). settled Forward (after_search s (next_match s true))) at in
     let reached : (place : Place) → slice_get starts 0 ≡ Some place → new.document.cursor ≡ place = λ place here.
-        let there : next ≡ Some place = first ∙ here in
-        ap (λ (s : State). s.document.cursor) new_is ∙ stays_at start true (stays_after state stays) (ap is_some there) ∙ ap (λ (o : Option Place). (after_search start o).document.cursor) there
+    let there : next ≡ Some place = first ∙ here in
+    ap (λ (s : State). s.document.cursor) new_is ∙ stays_at start true (stays_after state stays) (ap is_some there) ∙ ap (λ (o : Option Place). (after_search start o).document.cursor) there
     in
     record {
       same = ap match_starts new_is ∙ settled_starts (after_search start next) ∙ same_starts start next ∙ gone_starts state;

@@ -98,11 +98,12 @@ steps_back state restores =
       before = λ written new found is other.
           let some = (undoes_parts state found).1 in
           let undone = with_document state (after_undo document) in
-          subst (λ (s : State). ReachesBack document written ↔ ReachesBack s.document written) (sym (undone_is state new found is ∙ settled_as Forward undone))
-          ((λ h. reached_alike (after_undo document) (record (after_undo document) { cursor = (settled Forward undone).document.cursor; anchor = (settled Forward undone).document.anchor }) written refl
-          (after_one document written h.0 restores some other h.1 h.2)),
-          (λ h. further document written restores some
-          (reached_alike (record (after_undo document) { cursor = (settled Forward undone).document.cursor; anchor = (settled Forward undone).document.anchor }) (after_undo document) written refl h)));
+          subst (λ (s : State). ReachesBack document written ↔ ReachesBack s.document written) (sym (undone_is state new found is ∙ settled_as Forward undone)) (
+            (λ h. reached_alike (after_undo document) (record (after_undo document) { cursor = (settled Forward undone).document.cursor; anchor = (settled Forward undone).document.anchor }) written refl
+                (after_one document written h.0 restores some other h.1 h.2)),
+            (λ h. further document written restores some
+                (reached_alike (record (after_undo document) { cursor = (settled Forward undone).document.cursor; anchor = (settled Forward undone).document.anchor }) (after_undo document) written refl h)),
+          );
       fewer = λ new found is.
           let some = (undoes_parts state found).1 in
           subst (λ (s : State). done_groups s.document.log < done_groups document.log) (sym (undone_is state new found is ∙ settled_as Forward (with_document state (after_undo document)))) (omega (arith, one_less document restores some, some_groups document.log some));

@@ -111,9 +111,11 @@ ahead_made document found h is = by (found.1 == (past_cursor document).1) refl
         let more : document.cursor.1 + 1 < found.1 = grind (arith, nat_tests, from, column, e) in
         let within : found.1 ≤ length line = grind (arith, upto, column, more) in
         let index : index_of document.text document.cursor < index_of document.text (document.cursor.0, found.1) = omega (arith, more) in
-        let place : IsPlace document.text (document.cursor.0, found.1) = (h.cursor.0, within) in
-        (h.cursor, subst (λ (r : ℕ). IsPlace document.text (r, found.1)) (sym row) place,
-        subst (λ (r : ℕ). index_of document.text document.cursor < index_of document.text (r, found.1)) (sym row) index)
+        let place : IsPlace document.text (document.cursor.0, found.1) = (h.cursor.0, within) in (
+          h.cursor,
+          subst (λ (r : ℕ). IsPlace document.text (r, found.1)) (sym row) place,
+          subst (λ (r : ℕ). index_of document.text document.cursor < index_of document.text (r, found.1)) (sym row) index,
+        )
 
 pub later_made : (state : State) → IsSound state.document → IfSome (later_end state) (λ stop. HasEffect state.document (Remove state.document.cursor stop))
 later_made state h = by state.settings.cursor_unit

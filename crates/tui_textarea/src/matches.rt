@@ -154,8 +154,7 @@ fn last_before(
 fn is_later(mark: (usize, usize), at_mark: bool, place: (usize, usize)) -> bool
     ensures { result ≡ is_later mark at_mark place }
 {
-    mark.0 < place.0
-        || place.0 == mark.0 && (mark.1 < place.1 || at_mark && place.1 == mark.1)
+    mark.0 < place.0 || place.0 == mark.0 && (mark.1 < place.1 || at_mark && place.1 == mark.1)
 }
 
 /// Returns the number, counted from 0, of the start at the cursor, if one is there.

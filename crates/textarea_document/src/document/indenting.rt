@@ -139,11 +139,7 @@ impl Document {
     }
 
     // The same for where the selection began.
-    fn shifted_anchor(
-        &self,
-        outdents: Option<CursorUnit>,
-        columns: usize,
-    ) -> Option<(usize, usize)>
+    fn shifted_anchor(&self, outdents: Option<CursorUnit>, columns: usize) -> Option<(usize, usize)>
         requires { columns ≤ 255 }
         ensures { result ≡ option_map (shifted_place self.now outdents columns) self.now.anchor }
     {

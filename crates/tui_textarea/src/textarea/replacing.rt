@@ -9,8 +9,8 @@ ghost use Rattle.tui_textarea.specs.Fitting.{fits_each};
 ghost use Rattle.tui_textarea.specs.Replacing.{match_at_cursor, match_replaced, match_replaced_by, matches_replaced, replaceable};
 
 use crate::matches::{match_at, replaceable_in};
-use crate::textarea::guards::symbol_count;
 use crate::textarea::TextArea;
+use crate::textarea::guards::symbol_count;
 use std::alloc::AllocError;
 use std::sync::Arc;
 use textarea_data::range::AtomicCursorBias;
@@ -226,14 +226,7 @@ impl TextArea<'_> {
         let lines = self.document.lines();
         let cursor = self.document.cursor();
         let unit = self.settings.cursor_unit;
-        match_at(
-            self.allocator(),
-            unit,
-            &self.search,
-            ranges,
-            lines,
-            cursor,
-        )
+        match_at(self.allocator(), unit, &self.search, ranges, lines, cursor)
     }
 
     // Replaces the match, and moves the cursor to the next one.

@@ -158,12 +158,7 @@ impl TextArea<'_> {
             CursorUnit::Cluster => {
                 let starts = self.cluster_starts()?;
                 let cursor = self.document.cursor();
-                Ok(found_start(
-                    direction,
-                    starts.as_slice(),
-                    cursor,
-                    match_cursor,
-                ))
+                Ok(found_start(direction, starts.as_slice(), cursor, match_cursor))
             }
         }
     }
@@ -216,12 +211,7 @@ impl TextArea<'_> {
         let lines = document.lines();
         if self.settings.cursor_unit == CursorUnit::Cluster {
             let starts = cluster_starts_in(self.allocator(), &self.search, lines)?;
-            return Ok(found_start(
-                Direction::Forward,
-                starts.as_slice(),
-                cursor,
-                match_cursor,
-            ));
+            return Ok(found_start(Direction::Forward, starts.as_slice(), cursor, match_cursor));
         }
         self.drawing.find_match(
             &self.search,

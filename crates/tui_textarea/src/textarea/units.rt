@@ -161,7 +161,11 @@ impl TextArea<'_> {
             return None;
         }
         let stop = self.stop_of(AtomicCursorBias::Forward, (row, column + 1));
-        if stop.1 == column + 1 { None } else { Some(stop) }
+        if stop.1 == column + 1 {
+            None
+        } else {
+            Some(stop)
+        }
     }
 
     // Returns the ends of what is replaced between two positions.
