@@ -1,9 +1,9 @@
 //! A list of all matches, made by stepping through them. Its user can rely on it that each match is
 //! listed exactly once, in the order of the text.
-ghost use Rattle.std.specs.Prelude.{◌≡◌, ◌++◌, ◌∷◌, [], IfOk, List, OnOk, false, true};
+ghost use Rattle.std.specs.Prelude.{◌≡◌, ◌<◌, ◌++◌, ◌∷◌, [], IfOk, List, OnOk, false, true};
 ghost use Rattle.textarea_search.specs.Starts.{is_later};
 ghost use Rattle.tui_textarea.specs.Matches.{HasPassed, StaysAtStarts};
-ghost use Rattle.tui_textarea.specs.Prelude.{Place, match_starts};
+ghost use Rattle.tui_textarea.specs.Prelude.{IsPlace, Place, index_of, match_starts};
 
 use std::alloc::AllocError;
 use tui_textarea::TextArea;
@@ -29,6 +29,12 @@ pub fn all_matches(area: &mut TextArea<'_>) -> Result<Vec<(usize, usize)>, Alloc
 
 // Lists the match at the cursor, goes to the next one, and returns whether that is after it.
 fn step(area: &mut TextArea<'_>, places: &mut Vec<(usize, usize)>) -> Result<bool, AllocError>
+    ensures text { OnOk result (area.new.document.text ≡ area.old.document.text) }
+    ensures stays { OnOk result (StaysAtStarts area.old → StaysAtStarts area.new) }
+    ensures ahead { IfOk result (λ after. after ≡ true →
+        index_of area.old.document.text area.old.document.cursor
+        < index_of area.old.document.text area.new.document.cursor) }
+    ensures within { OnOk result (IsPlace area.new.document.text area.new.document.cursor) }
     ensures listed { OnOk result (places.new.items
         ≡ places.old.items ++ area.old.document.cursor ∷ []) }
     ensures passed { (starts : List Place) → StaysAtStarts area.old → HasPassed starts places.old.items true area.old →
