@@ -27,10 +27,6 @@ abbrev pub fitting_beside : Option ℕ → ℕ → List Symbol → List Symbol
 fitting_beside None others symbols = symbols
 fitting_beside (Some maximum) others symbols = beginning symbols (maximum - others)
 
--- what fits of it into the text
-abbrev pub fitting_here : State → List Symbol → List Symbol
-fitting_here state symbols = fitting_beside state.settings.max_chars (length state.document.text) symbols
-
 -- what fits of it in place of the selected text
 abbrev pub fitting_selection : State → List Symbol → List Symbol
 fitting_selection state symbols =

@@ -1,12 +1,13 @@
 //! Insertions. Each but `duplicate_line` first removes the selected text, as its own edit, and then
 //! moves a cursor that is strictly inside an atomic range to the range's end. With grouping on, both
 //! edits are one group. After all, cursor and anchor are settled.
-ghost use Rattle.std.specs.Prelude.{◌≡◌, ◌<◌, OnOk, OnErr, IsOk, IfOk, true, false, not, [], replicate, vec_len, ◌&&◌, if◌then◌else◌};
+ghost use Rattle.std.specs.Prelude.{◌≡◌, ◌<◌, OnOk, OnErr, IsOk, IfOk, true, false, not, [], length, replicate, vec_len, ◌&&◌, if◌then◌else◌};
 ghost use Rattle.std.specs.Arc.{arc_value};
 ghost use Rattle.std.specs.Str.{chars};
 ghost use Rattle.textarea_data.specs.declared.range.AtomicCursorBias.TheVariants.{Forward};
 ghost use Rattle.textarea_document.specs.Selection.{first_selected_row, last_selected_row, lines_duplicated, with_lines_again};
-ghost use Rattle.tui_textarea.specs.Prelude.{Character, lines, with_document, text_of, has_symbols, is_selected, fragment_symbols, pasted_symbols, inserts_tab, inserts_text, symbols_or_none_inserted, spaces_to_stop, char_inserted, char_or_break_inserted, line_broken, newline_inserted, tab_inserted, tab_or_spaces_inserted, str_inserted, IsInsertOutOfMemory, selection_cancelled, unselected, admitted_over_selection, bars_break, bars_character, bars_duplicate, bars_tab, fitting_here, fitting_selection, fitting_spaces, is_editable, unless_read_only, settled};
+ghost use Rattle.tui_textarea.specs.Fitting.{fitting_beside};
+ghost use Rattle.tui_textarea.specs.Prelude.{Character, lines, with_document, text_of, has_symbols, is_selected, fragment_symbols, pasted_symbols, inserts_tab, inserts_text, symbols_or_none_inserted, spaces_to_stop, char_inserted, char_or_break_inserted, line_broken, newline_inserted, tab_inserted, tab_or_spaces_inserted, str_inserted, IsInsertOutOfMemory, selection_cancelled, unselected, admitted_over_selection, bars_break, bars_character, bars_duplicate, bars_tab, fitting_selection, fitting_spaces, is_editable, unless_read_only, settled};
 
 use crate::textarea::TextArea;
 use std::alloc::{AllocError, Global};
@@ -32,7 +33,7 @@ impl TextArea<'_> {
         self.insert_char_unguarded(c)
     }
 
-    // The same, whether the text area is read only or not.
+    // The same, whether a guard leaves it out or not.
     fn insert_char_unguarded(&mut self, c: char) -> Result<(), AllocError>
         ensures ok { OnOk result (self.new ≡ settled Forward (char_inserted self.old c)) }
         ensures err { OnErr result (IsInsertOutOfMemory self.old self.new) }
@@ -80,7 +81,7 @@ impl TextArea<'_> {
         self.insert_newline_unguarded()
     }
 
-    // The same, whether the text area is read only or not.
+    // The same, whether a guard leaves it out or not.
     fn insert_newline_unguarded(&mut self) -> Result<(), AllocError>
         ensures ok { OnOk result (self.new ≡ settled Forward (newline_inserted self.old)) }
         ensures err { OnErr result (IsInsertOutOfMemory self.old self.new) }
@@ -120,7 +121,7 @@ impl TextArea<'_> {
         self.insert_str_unguarded(text)
     }
 
-    // The same, whether the text area is read only or not.
+    // The same, whether a guard leaves it out or not.
     fn insert_str_unguarded(&mut self, text: &str) -> Result<bool, AllocError>
         ensures inserted { IfOk result
             (λ inserted. inserted ≡ inserts_text self.old
@@ -138,7 +139,10 @@ impl TextArea<'_> {
         let removes = self.document.filled_selection().is_some();
         let fragment_lines = self.admitted_fragment(text)?;
         let inserts = self.insert_over_selection(fragment_lines)?;
-        Ok(removes || inserts)
+        if removes {
+            return Ok(true);
+        }
+        Ok(inserts)
     }
 
     /// Inserts a text that was pasted from outside, where `insert_str` inserts, and returns whether
@@ -159,7 +163,7 @@ impl TextArea<'_> {
         self.insert_pasted_unguarded(text)
     }
 
-    // The same, whether the text area is read only or not.
+    // The same, whether a guard leaves it out or not.
     fn insert_pasted_unguarded(&mut self, text: &str) -> Result<bool, AllocError>
         ensures inserted { IfOk result
             (λ inserted. inserted ≡ inserts_text self.old
@@ -178,7 +182,7 @@ impl TextArea<'_> {
         self.insert_str_unguarded(unified.as_str())
     }
 
-    /// Inserts the yanked text where `insert_str` inserts, and returns whether there was any.
+    /// Inserts the yanked text where `insert_str` inserts, and returns whether it inserted a symbol.
     pub fn paste(&mut self) -> Result<bool, AllocError>
         ensures inserted { IfOk result (λ inserted. inserted ≡ (is_editable self.old && has_symbols
             (admitted_over_selection self.old self.old.yank))) }
@@ -194,7 +198,7 @@ impl TextArea<'_> {
         self.paste_unguarded()
     }
 
-    // The same, whether the text area is read only or not.
+    // The same, whether a guard leaves it out or not.
     fn paste_unguarded(&mut self) -> Result<bool, AllocError>
         ensures inserted { IfOk result (λ inserted. inserted ≡ has_symbols
             (admitted_over_selection self.old self.old.yank)) }
@@ -245,14 +249,31 @@ impl TextArea<'_> {
 
     // Inserts what fits of a fragment, and returns whether that has a symbol.
     fn insert_fitting(&mut self, fragment_lines: Arc<Vec<String>>) -> Result<bool, AllocError>
-        ensures inserted { IfOk result (λ inserted. inserted ≡ has_symbols
-            (fitting_here self.old (text_of (arc_value fragment_lines).items))) }
-        ensures ok { OnOk result (self.new ≡ symbols_or_none_inserted self.old
-            (fitting_here self.old (text_of (arc_value fragment_lines).items))) }
+        ensures inserted { IfOk result (λ inserted. inserted ≡ has_symbols (fitting_beside
+            self.old.settings.max_chars (length self.old.document.text)
+            (text_of (arc_value fragment_lines).items))) }
+        ensures ok { OnOk result (self.new ≡ symbols_or_none_inserted self.old (fitting_beside
+            self.old.settings.max_chars (length self.old.document.text)
+            (text_of (arc_value fragment_lines).items))) }
         ensures err { OnErr result (self.new ≡ self.old) }
     {
-        let fitting = self.fitting(fragment_lines, self.symbol_count())?;
+        let fitting = self.fitting_fragment(fragment_lines)?;
         self.document.insert(fitting, self.time)
+    }
+
+    // Returns what fits of the fragment into the text as it is.
+    fn fitting_fragment(
+        &self,
+        fragment_lines: Arc<Vec<String>>,
+    ) -> Result<Arc<Vec<String>>, AllocError>
+        ensures { IfOk result (λ fitting. text_of (arc_value fitting).items ≡ fitting_beside
+            self.now.settings.max_chars (length self.now.document.text)
+            (text_of (arc_value fragment_lines).items)) }
+    {
+        if self.settings.max_chars.is_none() {
+            return Ok(fragment_lines);
+        }
+        self.fitting(fragment_lines, self.symbol_count())
     }
 
     /// Inserts the cursor's line once more below it, or the lines of the selection below the last of
@@ -277,7 +298,7 @@ impl TextArea<'_> {
         Ok(())
     }
 
-    // The same, whether the text area is read only or not.
+    // The same, whether a guard leaves it out or not.
     fn duplicate_line_unguarded(&mut self) -> Result<(), AllocError>
         ensures ok { OnOk result (self.new
             ≡ with_document self.old (lines_duplicated self.old.document self.old.time)) }
@@ -307,7 +328,7 @@ impl TextArea<'_> {
         self.insert_tab_unguarded()
     }
 
-    // The same, whether the text area is read only or not.
+    // The same, whether a guard leaves it out or not.
     fn insert_tab_unguarded(&mut self) -> Result<bool, AllocError>
         ensures inserted { IfOk result (λ inserted. inserted ≡ inserts_tab self.old) }
         ensures ok { OnOk result (self.new ≡ settled Forward (tab_inserted self.old)) }

@@ -129,9 +129,9 @@ impl TextArea<'_> {
     /// before, so nothing can be undone. `set_max_histories` with twice the number of matches makes
     /// room for them; since it forgets all edits, it is best called before the first one.
     pub fn replace_all(&mut self, text: &str) -> Result<usize, AllocError>
-        ensures count { IfOk result (λ count. count ≡ (if bars_each self.old text then 0 else
+        ensures count { IfOk result (λ count. count ≡ (if bars_each self.old text.entry then 0 else
             length (replaceable self.old))) }
-        ensures ok { OnOk result (self.new ≡ (if bars_each self.old text then self.old else
+        ensures ok { OnOk result (self.new ≡ (if bars_each self.old text.entry then self.old else
             settled Forward (matches_replaced self.old
             (admitted self.old (fragment_symbols (chars text.now)))))) }
         ensures err { OnErr result (self.new ≡ self.old) }
@@ -147,7 +147,8 @@ impl TextArea<'_> {
     // The same, whether the text area is read only or not.
     fn replace_all_unguarded(&mut self, text: &str) -> Result<usize, AllocError>
         ensures count { IfOk result (λ count. count ≡ (if fits_each self.old (replaceable self.old)
-            (admitted self.old (fragment_symbols (chars text.now))) then length (replaceable self.old) else 0)) }
+            (admitted self.old (fragment_symbols (chars text.now))) then
+            length (replaceable self.old) else 0)) }
         ensures ok { OnOk result (self.new ≡ (if fits_each self.old (replaceable self.old)
             (admitted self.old (fragment_symbols (chars text.now))) then settled Forward
             (matches_replaced self.old (admitted self.old (fragment_symbols (chars text.now))))
@@ -191,7 +192,11 @@ impl TextArea<'_> {
             ≡ admitted_between self.now from to (fragment_symbols (chars text.now))) }
     {
         let fragment_lines = self.admitted_fragment(text)?;
-        let others = self.symbol_count() - self.stretch_length(from, to)?;
+        if self.settings.max_chars.is_none() {
+            return Ok(fragment_lines);
+        }
+        let removed = self.stretch_length(from, to)?;
+        let others = self.symbol_count() - removed;
         self.fitting(fragment_lines, others)
     }
 
