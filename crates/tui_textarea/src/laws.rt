@@ -1,7 +1,8 @@
 //! Laws of text areas and their visual rows, each the contract of a function that does nothing.
 ghost use Rattle.std.specs.Prelude.{if◌then◌else◌, ◌≡◌, ◌-◌, ◌<◌, ◌^◌, ◌↔◌, ℕ, Bool, List, [], true, false, length, take, None, Option};
 ghost use Rattle.tui_textarea.specs.Prelude.{IsHitTest, IsLastArea, IsWithoutCell, Place, size_limit, CursorMove, Scrolling, text_and_layout, IsSound, IsCaretHit, frame_of, shows_placeholder, IsCaretVisible, Action, BorrowedRows, IsViewOf, row_total, Rect, saturated_u16, width_inside, TextAreaMeasure, weight, IsRendered, widget_of, HasLayoutFor, IsMeasured, IsMeasuredAround, IsAfterAction, IsMovedWith, IsScrolledWith, State};
-ghost use Rattle.tui_textarea.specs.Prelude.{IsInsertOutOfMemory, IsTypedLine, bars_character, breaks_line, char_inserted, fragment_text, symbol_before_removed, text_cleared, unless_read_only, unselected_or, with_character};
+ghost use Rattle.tui_textarea.specs.Prelude.{IsInsertOutOfMemory, IsTypedLine, bars_character, breaks_line, char_inserted, fragment_text, settled, symbol_before_removed, text_cleared, unless_read_only, unselected_or, with_character};
+ghost use Rattle.textarea_data.specs.declared.range.AtomicCursorBias.TheVariants.{Forward};
 
 use crate::drawing::laws::{caret_hit_is_cursor, caret_is_visible, one_nearest_place};
 pub use crate::textarea::laws::{
