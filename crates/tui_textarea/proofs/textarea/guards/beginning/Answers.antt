@@ -11,5 +11,8 @@ between-requires-clause-to c =
 
 pub returns : goal.returns
 returns c =
+    let lines = c.args.fragment_lines.now in
+    let filled = is_filled (length lines) c.is_empty.result c.is_empty.ensures c.if-is_empty.false in
     subst (λ (symbols : List Symbol). IfOk c.between.result (λ kept. text_of kept.items ≡ symbols))
-    (beginning_is c.args.fragment_lines.now c.args.most c.ahead-row.result (chars c.line_of.result.now) c.edge_back-end.result (is_filled (length c.args.fragment_lines.now) c.is_empty.result c.is_empty.ensures c.if-is_empty.false) c.ahead-row.ensures.value c.line_of.ensures.characters c.edge_back-end.ensures) c.between.ensures.text
+    (beginning_is lines c.args.most c.ahead-row.result (chars c.line_of.result.now) c.edge_back-end.result filled c.ahead-row.ensures.value c.line_of.ensures.characters c.edge_back-end.ensures)
+    c.between.ensures.text
