@@ -37,7 +37,8 @@ fn step(area: &mut TextArea<'_>, places: &mut Vec<(usize, usize)>) -> Result<boo
     ensures within { OnOk result (IsPlace area.new.document.text area.new.document.cursor) }
     ensures listed { OnOk result (places.new.items
         ≡ places.old.items ++ area.old.document.cursor ∷ []) }
-    ensures passed { (starts : List Place) → StaysAtStarts area.old → HasPassed starts places.old.items true area.old →
+    ensures passed { (starts : List Place) → StaysAtStarts area.old →
+        HasPassed starts places.old.items true area.old →
         IfOk result (λ after. HasPassed starts places.new.items after area.new) }
 {
     matches_in_order(area);

@@ -32,10 +32,10 @@ pub fn one_input()
 }
 
 /// A text of one line that is typed from its start, and can be edited, stays one, with the cursor
-/// after it, which goes by characters: a character is added at its end, or left out if it would be one more than the greatest
-/// number of characters, a removal of the symbol before the cursor removes the last one, and `clear`
-/// removes all. An insertion that runs out of memory leaves it as it was. Its text is written as its
-/// characters.
+/// after it, which goes by characters: a character is added at its end, or left out if it would be
+/// one more than the greatest number of characters, a removal of the symbol before the cursor removes
+/// the last one, and `clear` removes all. An insertion that runs out of memory leaves it as it was.
+/// Its text is written as its characters.
 pub fn typed_line_stays()
     ensures typed { (old new : State) (maximum : Option ℕ) (line : List ℕ) (c : ℕ) →
         IsTypedLine old maximum line → breaks_line c ≡ false →

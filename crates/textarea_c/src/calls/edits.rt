@@ -48,8 +48,8 @@ fn insert_character(editor: &mut Editor, c: char) -> u32
 #[unsafe(no_mangle)]
 pub extern "C" fn ta_insert_newline(handle: &mut Handle, alloc: Global) -> u32
     ensures { Calls handle.old.stored.content result handle.new.stored.content
-        (λ a b. Inserts (if bars_break a.area then a.area else settled Forward (newline_inserted a.area))
-        result a b) }
+        (λ a b. Inserts (if bars_break a.area then a.area
+        else settled Forward (newline_inserted a.area)) result a b) }
 {
     on!(handle, alloc, editor => done(editor.area.insert_newline()))
 }

@@ -282,8 +282,9 @@ impl TextArea<'_> {
     /// ranges stay with the first lines, and the copy has none. What was yanked stays. After it the
     /// lines are those up to the last of these lines, and then those from the first of them on.
     pub fn duplicate_line(&mut self) -> Result<(), AllocError>
-        ensures ok { OnOk result (self.new ≡ (if bars_duplicate self.old then self.old else settled Forward
-            (with_document self.old (lines_duplicated self.old.document self.old.time)))) }
+        ensures ok { OnOk result (self.new ≡ (if bars_duplicate self.old then self.old else
+            settled Forward (with_document self.old
+            (lines_duplicated self.old.document self.old.time)))) }
         ensures err { OnErr result (self.new ≡ self.old) }
         ensures lines { OnOk result (lines self.new.document.text ≡ (if bars_duplicate self.old
             then lines self.old.document.text else with_lines_again (lines self.old.document.text)

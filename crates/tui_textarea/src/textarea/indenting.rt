@@ -19,8 +19,8 @@ impl TextArea<'_> {
     pub fn indent_lines(&mut self) -> Result<bool, AllocError>
         ensures indented { IfOk result (λ indented. indented ≡ (not (bars_indent self.old) &&
             shifts_lines self.old.document None)) }
-        ensures ok { OnOk result (self.new ≡ (if bars_indent self.old then self.old else settled Forward
-            (with_document self.old (lines_indented self.old.document
+        ensures ok { OnOk result (self.new ≡ (if bars_indent self.old then self.old else
+            settled Forward (with_document self.old (lines_indented self.old.document
             self.old.settings.hard_tab_indent self.old.time)))) }
         ensures err { OnErr result (self.new ≡ self.old) }
         ensures lines { OnOk result (lines self.new.document.text ≡ (if bars_indent self.old
@@ -78,8 +78,8 @@ impl TextArea<'_> {
 
     // The same, whether the text area is read only or not.
     fn outdent_lines_unguarded(&mut self) -> Result<bool, AllocError>
-        ensures outdented { IfOk result
-            (λ outdented. outdented ≡ shifts_lines self.old.document (Some self.old.settings.cursor_unit)) }
+        ensures outdented { IfOk result (λ outdented. outdented ≡ shifts_lines self.old.document
+            (Some self.old.settings.cursor_unit)) }
         ensures ok { OnOk result (self.new ≡ with_document self.old
             (lines_outdented self.old.document self.old.settings.cursor_unit self.old.time)) }
         ensures err { OnErr result (self.new ≡ self.old) }

@@ -18,8 +18,8 @@ impl TextArea<'_> {
     pub fn delete_char(&mut self) -> Result<bool, AllocError>
         ensures removed { IfOk result (λ removed. removed ≡ (is_editable self.old && removes_or
             self.old (has_before self.old))) }
-        ensures ok { OnOk result (self.new ≡ unless_read_only self.old (settled Forward (unselected_or self.old
-            (symbol_before_removed self.old)))) }
+        ensures ok { OnOk result (self.new ≡ unless_read_only self.old (settled Forward
+            (unselected_or self.old (symbol_before_removed self.old)))) }
         ensures err { OnErr result (self.new ≡ self.old) }
         ensures nothing { (is_editable self.old && removes_or self.old (has_before self.old)) ≡
             false → IsOk result }
@@ -53,8 +53,8 @@ impl TextArea<'_> {
     pub fn delete_next_char(&mut self) -> Result<bool, AllocError>
         ensures removed { IfOk result (λ removed. removed ≡ (is_editable self.old && removes_or
             self.old (has_after self.old))) }
-        ensures ok { OnOk result (self.new ≡ unless_read_only self.old (settled Forward (unselected_or self.old
-            (symbol_after_removed self.old)))) }
+        ensures ok { OnOk result (self.new ≡ unless_read_only self.old (settled Forward
+            (unselected_or self.old (symbol_after_removed self.old)))) }
         ensures err { OnErr result (self.new ≡ self.old) }
         ensures nothing { (is_editable self.old && removes_or self.old (has_after self.old)) ≡ false
             → IsOk result }
@@ -86,8 +86,8 @@ impl TextArea<'_> {
     pub fn delete_newline(&mut self) -> Result<bool, AllocError>
         ensures removed { IfOk result (λ removed. removed ≡ (is_editable self.old && removes_or
             self.old (has_break_before self.old))) }
-        ensures ok { OnOk result (self.new ≡ unless_read_only self.old (settled Forward (unselected_or self.old
-            (break_before_removed self.old)))) }
+        ensures ok { OnOk result (self.new ≡ unless_read_only self.old (settled Forward
+            (unselected_or self.old (break_before_removed self.old)))) }
         ensures err { OnErr result (self.new ≡ self.old) }
         ensures nothing { (is_editable self.old && removes_or self.old (has_break_before self.old))
             ≡ false → IsOk result }
@@ -120,8 +120,8 @@ impl TextArea<'_> {
     pub fn delete_str(&mut self, count: usize) -> Result<bool, AllocError>
         ensures removed { IfOk result (λ removed. removed ≡ (is_editable self.old && removes_or
             self.old (has_ahead self.old count))) }
-        ensures ok { OnOk result (self.new ≡ unless_read_only self.old (settled Forward (unselected_or self.old
-            (symbols_ahead_removed self.old count)))) }
+        ensures ok { OnOk result (self.new ≡ unless_read_only self.old (settled Forward
+            (unselected_or self.old (symbols_ahead_removed self.old count)))) }
         ensures err { OnErr result (self.new ≡ self.old) }
         ensures nothing { (is_editable self.old && removes_or self.old (has_ahead self.old count)) ≡
             false → IsOk result }
@@ -160,8 +160,8 @@ impl TextArea<'_> {
     pub fn delete_line_by_end(&mut self) -> Result<bool, AllocError>
         ensures removed { IfOk result (λ removed. removed ≡ (is_editable self.old && removes_or
             self.old (has_line_after self.old))) }
-        ensures ok { OnOk result (self.new ≡ unless_read_only self.old (settled Forward (unselected_or self.old
-            (line_end_removed self.old)))) }
+        ensures ok { OnOk result (self.new ≡ unless_read_only self.old (settled Forward
+            (unselected_or self.old (line_end_removed self.old)))) }
         ensures err { OnErr result (self.new ≡ self.old) }
         ensures nothing { (is_editable self.old && removes_or self.old (has_line_after self.old)) ≡
             false → IsOk result }
@@ -199,8 +199,8 @@ impl TextArea<'_> {
     pub fn delete_line_by_head(&mut self) -> Result<bool, AllocError>
         ensures removed { IfOk result (λ removed. removed ≡ (is_editable self.old && removes_or
             self.old (has_line_before self.old))) }
-        ensures ok { OnOk result (self.new ≡ unless_read_only self.old (settled Forward (unselected_or self.old
-            (line_head_removed self.old)))) }
+        ensures ok { OnOk result (self.new ≡ unless_read_only self.old (settled Forward
+            (unselected_or self.old (line_head_removed self.old)))) }
         ensures err { OnErr result (self.new ≡ self.old) }
         ensures nothing { (is_editable self.old && removes_or self.old (has_line_before self.old)) ≡
             false → IsOk result }
@@ -239,8 +239,8 @@ impl TextArea<'_> {
     pub fn delete_word(&mut self) -> Result<bool, AllocError>
         ensures removed { IfOk result (λ removed. removed ≡ (is_editable self.old && removes_or
             self.old (has_word_before self.old))) }
-        ensures ok { OnOk result (self.new ≡ unless_read_only self.old (settled Forward (unselected_or self.old
-            (word_before_removed self.old)))) }
+        ensures ok { OnOk result (self.new ≡ unless_read_only self.old (settled Forward
+            (unselected_or self.old (word_before_removed self.old)))) }
         ensures err { OnErr result (self.new ≡ self.old) }
         ensures nothing { (is_editable self.old && removes_or self.old (has_word_before self.old)) ≡
             false → IsOk result }
@@ -277,8 +277,8 @@ impl TextArea<'_> {
     pub fn delete_next_word(&mut self) -> Result<bool, AllocError>
         ensures removed { IfOk result (λ removed. removed ≡ (is_editable self.old && removes_or
             self.old (has_word_after self.old))) }
-        ensures ok { OnOk result (self.new ≡ unless_read_only self.old (settled Forward (unselected_or self.old
-            (word_after_removed self.old)))) }
+        ensures ok { OnOk result (self.new ≡ unless_read_only self.old (settled Forward
+            (unselected_or self.old (word_after_removed self.old)))) }
         ensures err { OnErr result (self.new ≡ self.old) }
         ensures nothing { (is_editable self.old && removes_or self.old (has_word_after self.old)) ≡
             false → IsOk result }
@@ -314,7 +314,8 @@ impl TextArea<'_> {
     pub fn clear(&mut self) -> Result<bool, AllocError>
         ensures removed { IfOk result (λ removed. removed ≡ (is_editable self.old && has_symbols
             self.old.document.text)) }
-        ensures ok { OnOk result (self.new ≡ unless_read_only self.old (settled Forward (text_cleared self.old))) }
+        ensures ok { OnOk result
+            (self.new ≡ unless_read_only self.old (settled Forward (text_cleared self.old))) }
         ensures err { OnErr result (self.new ≡ self.old) }
         ensures nothing { (is_editable self.old && has_symbols self.old.document.text) ≡ false →
             IsOk result }

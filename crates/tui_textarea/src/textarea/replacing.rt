@@ -31,9 +31,10 @@ impl TextArea<'_> {
     /// Replaces the text between two positions, in either order, by this one, and returns whether
     /// it removed or inserted something. Positions beyond the text count as the nearest ones in it.
     /// Each atomic range that the replaced text overlaps is removed, and so is each cluster, if the
-    /// cursor goes by clusters. Each line feed of the text breaks the line, as for `insert_str`. The cursor is then after what was inserted, and nothing
-    /// is selected. The removal and the insertion are one group of two edits: if no group was open,
-    /// and two edits are remembered, one undo takes both back (`laws::calls_are_undone_at_once`).
+    /// cursor goes by clusters. Each line feed of the text breaks the line, as for `insert_str`. The
+    /// cursor is then after what was inserted, and nothing is selected. The removal and the insertion
+    /// are one group of two edits: if no group was open, and two edits are remembered, one undo takes
+    /// both back (`laws::calls_are_undone_at_once`).
     pub fn replace_range(
         &mut self,
         from: (usize, usize),
