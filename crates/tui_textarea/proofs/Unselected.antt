@@ -1,21 +1,31 @@
 -- The state after a call that first removes the selected text.
-use Rattle.std.proofs.Common.{◌≡◌, ◌||◌, Bool, true, false, Option, None, is_some, Result, Ok, Err, ap, sym, ◌∙◌}
+use Rattle.std.proofs.Common.{◌≡◌, ◌||◌, Bool, true, false, Option, None, is_some, Result, Ok, Err, ap, inr, sym, ◌∙◌}
 use Rattle.std.proofs.lemmas.Bool.{cond-false, cond-true, or_left, or_parts, or_right}
 use Rattle.std.proofs.lemmas.Result.{IfOk-weaker}
-use Rattle.std.specs.Result.{IfOk, OnOk}
+use Rattle.std.specs.Result.{IfOk, OnErr, OnOk}
+use Rattle.textarea_data.specs.declared.range.AtomicCursorBias.TheVariants.{Forward}
 use Rattle.textarea_data.specs.declared.range.AtomicRange.{AtomicRange}
 use Rattle.textarea_data.specs.declared.range.AtomicDeleteDirection.{AtomicDeleteDirection}
 use Rattle.textarea_document.specs.Edits.{range_at_cursor, cursor_range_removed, removed_range_or}
 use Rattle.textarea_document.specs.Selection.{is_selected, selected_removed}
 use Rattle.textarea_document.specs.DocumentState.{DocumentState}
 use Rattle.tui_textarea.specs.Removals.{removes_or, unselected_or}
-use Rattle.tui_textarea.specs.Selection.{unselected}
+use Rattle.tui_textarea.specs.Selection.{IsInsertOutOfMemory, unselected}
+use Rattle.tui_textarea.specs.Units.{settled}
 use Rattle.tui_textarea.specs.State.{State, with_document}
 use Rattle.textarea_util.proofs.Options.{none_of_test}
 
 pub unselected_is : {view state : State} → view ≡ state → (removed : DocumentState) → removed ≡ selected_removed view.document view.time
     → with_document view removed ≡ unselected state
 unselected_is {view} is removed gone = ap (with_document view) gone ∙ ap unselected is
+
+-- after the settling, if the insertion into the remaining text ran out of memory
+pub left_settled : {T E : Type 0} (r : Result T E) {view state last : State} → view ≡ state → (removed new : DocumentState)
+    → removed ≡ selected_removed view.document view.time → OnErr r (new ≡ removed) → last ≡ settled Forward (with_document view new)
+    → OnErr r (IsInsertOutOfMemory state last)
+left_settled (Ok x) is removed new gone h last_is = h
+left_settled (Err e) {view} is removed new gone h last_is =
+    inr (last_is ∙ ap (λ (d : DocumentState). settled Forward (with_document view d)) h ∙ ap (settled Forward) (unselected_is is removed gone))
 
 -- if text is selected, only that is removed
 pub selected_gone : {view state : State} → view ≡ state → (removed : DocumentState) → removed ≡ selected_removed view.document view.time

@@ -355,10 +355,21 @@ impl TextArea<'_> {
             (tab_or_spaces_inserted (unselected self.old) tab_length)) }
         ensures err { OnErr result (IsInsertOutOfMemory self.old self.new) }
     {
+        self.put_tab(tab_length)?;
+        Ok(true)
+    }
+
+    fn put_tab(&mut self, tab_length: u8) -> Result<(), AllocError>
+        requires some { 0 < tab_length }
+        ensures ok { OnOk result
+            (self.new ≡ settled Forward
+            (tab_or_spaces_inserted (unselected self.old) tab_length)) }
+        ensures err { OnErr result (IsInsertOutOfMemory self.old self.new) }
+    {
         self.document.remove_selection(self.time)?;
         let inserted = self.insert_tab_or_spaces(tab_length);
         self.settle(AtomicCursorBias::Forward);
-        inserted.map(|()| true)
+        inserted
     }
 
     // Inserts a tab of this length at the insertion position.
