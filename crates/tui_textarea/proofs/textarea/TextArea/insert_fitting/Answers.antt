@@ -1,16 +1,18 @@
-use Rattle.std.proofs.Common.{◌≡◌, ◌∙◌, Bool, List, ap}
+use Rattle.std.proofs.Common.{◌≡◌, ◌∙◌, ap, length}
 use Rattle.std.proofs.lemmas.Result.{IfOk-weaker, on_ok_weaker}
 use Rattle.textarea_text.specs.Text.{text_of}
 use Rattle.textarea_document.specs.Edits.{has_symbols, symbols_inserted}
 use Rattle.tui_textarea.specs.Edits.{symbols_or_none_inserted}
+use Rattle.tui_textarea.specs.Fitting.{fitting_beside}
 use Rattle.tui_textarea.specs.State.{State}
 use Rattle.tui_textarea.proofs.Lifted.{document_lifted}
 use Rattle.tui_textarea.proofs.textarea.TextArea.insert_fitting.Goals as goal
 
 pub returns-clause-inserted : goal.returns-clause-inserted
 returns-clause-inserted c =
-    IfOk-weaker c.insert.result (λ b. b ≡ has_symbols (text_of c.in_ok-fitting.fitting.value.items)) _
-    (λ (b : Bool) e. e ∙ ap has_symbols c.in_ok-fitting.ensures) c.insert.ensures.inserted
+    IfOk-weaker c.insert.result (λ b. b ≡ has_symbols (text_of c.in_ok-fitting.fitting.value.items))
+    (λ b. b ≡ has_symbols (fitting_beside c.args.self.now.settings.max_chars (length c.args.self.now.document.text) (text_of c.args.fragment_lines.value.items)))
+    (λ b e. e ∙ ap has_symbols c.in_ok-fitting.ensures) c.insert.ensures.inserted
 
 pub returns-clause-ok : goal.returns-clause-ok
 returns-clause-ok c =
