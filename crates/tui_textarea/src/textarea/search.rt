@@ -209,17 +209,17 @@ impl TextArea<'_> {
     {
         let cursor = document.cursor();
         let lines = document.lines();
-        if self.settings.cursor_unit == CursorUnit::Cluster {
-            let starts = cluster_starts_in(self.allocator(), &self.search, lines)?;
-            return Ok(found_start(Direction::Forward, starts.as_slice(), cursor, match_cursor));
+        let direction = Direction::Forward;
+        match self.settings.cursor_unit {
+            CursorUnit::Character => {
+                self.drawing
+                    .find_match(&self.search, direction, lines, cursor, match_cursor)
+            }
+            CursorUnit::Cluster => {
+                let starts = cluster_starts_in(self.allocator(), &self.search, lines)?;
+                Ok(found_start(direction, starts.as_slice(), cursor, match_cursor))
+            }
         }
-        self.drawing.find_match(
-            &self.search,
-            Direction::Forward,
-            lines,
-            cursor,
-            match_cursor,
-        )
     }
 
     // Moves the cursor to the found position, if there is one, and returns whether there is.
