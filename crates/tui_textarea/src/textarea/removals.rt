@@ -265,7 +265,8 @@ impl TextArea<'_> {
         if self.document.remove_selection(self.time)? {
             return Ok(true);
         }
-        if self.remove_cursor_range(AtomicDeleteDirection::Backward)? {
+        let hit = self.remove_cursor_range(AtomicDeleteDirection::Backward)?;
+        if hit {
             return Ok(true);
         }
         self.remove_to_word_start()
@@ -303,7 +304,8 @@ impl TextArea<'_> {
         if self.document.remove_selection(self.time)? {
             return Ok(true);
         }
-        if self.remove_cursor_range(AtomicDeleteDirection::Forward)? {
+        let hit = self.remove_cursor_range(AtomicDeleteDirection::Forward)?;
+        if hit {
             return Ok(true);
         }
         self.remove_to_word_end()
