@@ -95,6 +95,9 @@ not_false : (b : Bool) → not b ≡ true → b ≡ false
 not_false true e = absurd cc
 not_false false e = refl
 
+pub outdent_within : (ranges : List AtomicRange) (tab_length row : ℕ) (line : List ℕ) → outdent_columns ranges tab_length row line ≤ length line
+outdent_within ranges tab_length row line = (outdent_fits ranges tab_length row line).0
+
 back_fits : (ranges : List AtomicRange) (row : ℕ) (line : List ℕ) (count : ℕ) → count ≤ length line → IsStart ranges row line (column_back ranges line row count)
 unfolding column_back
 back_fits ranges row line zero within = (within, out_at_start ranges row)

@@ -242,7 +242,6 @@ fn outdent_columns(ranges: &[AtomicRange], tab_length: u8, row: usize, line: &st
     requires { AreApart ranges.now }
     ensures value { result ≡ outdent_columns ranges.now tab_length row (chars line.now) }
     ensures short { result ≤ 255 }
-    ensures within { result ≤ length (chars line.now) }
 {
     if begins_with_tab(line) && is_free(ranges, (row, 0)) {
         return 1;
