@@ -7,7 +7,7 @@ ghost use Rattle.tui_textarea.specs.Prelude.{IsPlace, Place, index_of, match_sta
 
 use std::alloc::AllocError;
 use tui_textarea::TextArea;
-use tui_textarea::laws::matches_in_order;
+use tui_textarea::laws::{is_sound, matches_in_order};
 
 /// Steps through all matches of the search pattern, from the text's start on, and returns where they
 /// start. The cursor is then at the first one again. If it goes by clusters, no match may begin inside
@@ -20,6 +20,7 @@ pub fn all_matches(area: &mut TextArea<'_>) -> Result<Vec<(usize, usize)>, Alloc
     matches_in_order(area);
     area.go_to((0, 0));
     let mut goes_on = area.search_forward(true)?;
+    is_sound(area);
     'steps: while goes_on {
         let after = step(area, &mut places)?;
         goes_on = after;

@@ -16,7 +16,7 @@ use Rattle.tui_textarea.specs.Search.{after_search, match_starts, next_match}
 use Rattle.tui_textarea.specs.State.{State, with_document}
 use Rattle.tui_textarea.specs.Units.{IsAtStop, document_settled, settled}
 use Rattle.tui_textarea.proofs.FoundPlaces.{found_of_all}
-use Rattle.tui_textarea.proofs.Settling.{by_unit, stop_same}
+use Rattle.tui_textarea.proofs.Settling.{by_unit, settled_text, stop_same}
 use Rattle.textarea_clusters.proofs.StopPlaces.{start_is_stop}
 use Rattle.textarea_data.specs.declared.cursor.CursorUnit.{CursorUnit}
 use Rattle.textarea_data.specs.declared.cursor.CursorUnit.TheVariants as unit
@@ -145,7 +145,7 @@ gone_is_at_start state =
 gone_starts : (state : State) → match_starts (gone state) ≡ match_starts state
 gone_starts state = settled_starts (gone_to state (0, 0))
 
-stays_after : (state : State) → StaysAtStarts state → StaysAtStarts (gone state)
+pub stays_after : (state : State) → StaysAtStarts state → StaysAtStarts (settled Forward (gone_to state (0, 0)))
 stays_after state stays = by_unit StaysAtStarts Forward (gone_to state (0, 0)) (λ is. moved state.settings.cursor_unit stays) (λ is. settled_too state.settings.cursor_unit stays)
   where
     moved : (found : CursorUnit) → StaysAtStartsBy found state → StaysAtStartsBy found (gone_to state (0, 0))
@@ -155,6 +155,34 @@ stays_after state stays = by_unit StaysAtStarts Forward (gone_to state (0, 0)) (
     settled_too : (found : CursorUnit) → StaysAtStartsBy found state → StaysAtStartsBy found (with_document state (document_settled Forward (gone_to state (0, 0)).document))
     settled_too unit.Character h = h
     settled_too unit.Cluster h = h
+
+-- a search leaves the text too, and whether the next ones stay at starts
+pub searched_text : (state : State) (found : Option Place) → (settled Forward (after_search state found)).document.text ≡ state.document.text
+searched_text state None = settled_text Forward state
+searched_text state (Some place) = settled_text Forward (after_search state (Some place))
+
+pub stays_searched : (state : State) (found : Option Place) → StaysAtStarts state → StaysAtStarts (settled Forward (after_search state found))
+stays_searched state found stays = by_unit StaysAtStarts Forward (after_search state found) (λ is. plain found) (λ is. settled_too found)
+  where
+    plain : (found : Option Place) → StaysAtStarts (after_search state found)
+    plain None = stays
+    plain (Some place) = moved state.settings.cursor_unit stays
+      where
+        moved : (by : CursorUnit) → StaysAtStartsBy by state → StaysAtStartsBy by (after_search state (Some place))
+        moved unit.Character h = h
+        moved unit.Cluster h = h
+
+    settled_too : (found : Option Place) → StaysAtStartsBy (after_search state found).settings.cursor_unit (with_document (after_search state found) (document_settled Forward (after_search state found).document))
+    settled_too None = kept state.settings.cursor_unit stays
+      where
+        kept : (by : CursorUnit) → StaysAtStartsBy by state → StaysAtStartsBy by (with_document state (document_settled Forward state.document))
+        kept unit.Character h = h
+        kept unit.Cluster h = h
+    settled_too (Some place) = kept state.settings.cursor_unit stays
+      where
+        kept : (by : CursorUnit) → StaysAtStartsBy by state → StaysAtStartsBy by (with_document (after_search state (Some place)) (document_settled Forward (after_search state (Some place)).document))
+        kept unit.Character h = h
+        kept unit.Cluster h = h
 
 -- the first match is found, if there is one
 first_past : (starts : List Place) (cursor : Place) → ((place : Place) → slice_get starts 0 ≡ Some place → cursor ≡ place) → IsPast [] (is_some (slice_get starts 0)) cursor starts
