@@ -1,5 +1,7 @@
-use Rattle.std.proofs.Common.{◌≡◌, ◌∙◌, Bool, List, ap, subst, sym}
-use Rattle.textarea_text.specs.Place.{Place}
+use Rattle.std.proofs.Common.{◌≡◌, ◌∙◌, ◌<◌, ◌≤◌, ◌+◌, ◌-◌, ℕ, Bool, true, false, cond, List, length, ap, arith, refl, subst, sym}
+use Rattle.textarea_text.specs.Place.{IsPlace, Place, index_of}
+use Rattle.textarea_text.specs.Text.{Symbol}
+use Rattle.textarea_text.proofs.TextPlaces.{index_within}
 use Rattle.tui_textarea.specs.Matches.{HasPassed, StaysAtStarts}
 use Rattle.tui_textarea.specs.Moves.{gone_to}
 use Rattle.tui_textarea.specs.Search.{match_starts, next_match}
@@ -36,3 +38,18 @@ steps-preserved c =
         c.in_ok-after.ensures.passed starts so_far.0 (subst (λ (b : Bool). HasPassed starts c.steps.places.items b c.steps.area) c.steps-test.true so_far.1)
       ),
     )
+
+-- the index of the cursor grows, or the walk ends
+smaller : (goes : Bool) (symbols old new : ℕ) → (goes ≡ true → old < new) → new ≤ symbols → cond goes (symbols - new + 1) 0 < symbols - old + 1
+smaller true symbols old new ahead within = omega (arith, ahead refl, within)
+smaller false symbols old new ahead within = omega arith
+
+pub steps-smaller : goal.steps-smaller
+steps-smaller c =
+    let text = c.args.area.now.document.text in
+    let old = c.steps.area.document.cursor in
+    let new = c.step-after.new.area.document.cursor in
+    subst (λ (b : Bool). cond c.in_ok-after.after (length text - index_of text new + 1) 0 < cond b (length text - index_of text old + 1) 0) (sym c.steps-test.true)
+    (smaller c.in_ok-after.after (length text) (index_of text old) (index_of text new)
+    (λ goes. subst (λ (t : List Symbol). index_of t old < index_of t new) c.steps.invariant.0 (c.in_ok-after.ensures.ahead goes))
+    (index_within text new (subst (λ (t : List Symbol). IsPlace t new) (c.in_ok-after.ensures.text ∙ c.steps.invariant.0) c.in_ok-after.ensures.within)))
