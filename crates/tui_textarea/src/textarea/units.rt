@@ -37,6 +37,7 @@ impl TextArea<'_> {
 
     // Moves the cursor and the selection's beginning out of what strictly contains them, if the
     // cursor goes by clusters. A run of typing goes on. Each call that may leave one there ends so.
+    #[tactic(auto, unfolding(crate::specs::Units::settled))]
     pub(super) fn settle(&mut self, bias: AtomicCursorBias)
         ensures new { self.new ≡ settled bias self.old }
         ensures text { self.new.document.text ≡ self.old.document.text }
