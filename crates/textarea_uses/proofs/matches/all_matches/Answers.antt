@@ -19,11 +19,10 @@ steps-init c =
     let went : gone.document.text ≡ old.document.text = ap (λ (s : State). s.document.text) c.go_to.ensures ∙ settled_text Forward (gone_to old (0, 0)) in (
       ap (λ (s : State). s.document.text) c.in_ok-goes_on.ensures.ok ∙ searched_text gone (next_match gone true) ∙ went,
       c.is_sound.ensures.cursor,
-      λ stays.
-      (
+      λ stays. (
         subst StaysAtStarts (sym c.in_ok-goes_on.ensures.ok) (stays_searched gone (next_match gone true) (subst StaysAtStarts (sym c.go_to.ensures) (stays_after old stays))),
         subst (λ (places : List Place). HasPassed (match_starts old) places c.in_ok-goes_on.goes_on new) (sym c.new-places.ensures.items)
-            (c.matches_in_order.ensures.begin gone new c.in_ok-goes_on.goes_on stays c.go_to.ensures c.in_ok-goes_on.ensures.found c.in_ok-goes_on.ensures.ok)
+            (c.matches_in_order.ensures.begin gone new c.in_ok-goes_on.goes_on stays c.go_to.ensures c.in_ok-goes_on.ensures.found c.in_ok-goes_on.ensures.ok),
       ),
     )
 
@@ -33,10 +32,10 @@ steps-preserved c =
       c.in_ok-after.ensures.text ∙ c.steps.invariant.0,
       c.in_ok-after.ensures.within,
       λ stays.
-      let so_far = c.steps.invariant.2 stays in (
-        c.in_ok-after.ensures.stays so_far.0,
-        c.in_ok-after.ensures.passed starts so_far.0 (subst (λ (b : Bool). HasPassed starts c.steps.places.items b c.steps.area) c.steps-test.true so_far.1)
-      ),
+          let so_far = c.steps.invariant.2 stays in (
+            c.in_ok-after.ensures.stays so_far.0,
+            c.in_ok-after.ensures.passed starts so_far.0 (subst (λ (b : Bool). HasPassed starts c.steps.places.items b c.steps.area) c.steps-test.true so_far.1),
+          ),
     )
 
 -- the index of the cursor grows, or the walk ends
