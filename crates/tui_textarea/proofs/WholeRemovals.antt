@@ -1,6 +1,7 @@
 -- Removals that begin and end between clusters have something to remove.
-use Rattle.std.proofs.Common.{◌≡◌, ◌≢◌, ◌∙◌, ◌<◌, ◌≤◌, ◌+◌, ◌-◌, ◌==◌, ℕ, Bool, true, false, List, length, Option, None, Some, IfSome, ap, arith, refl, subst, sym}
+use Rattle.std.proofs.Common.{◌≡◌, ◌≢◌, ◌∙◌, ◌<◌, ◌≤◌, ◌+◌, ◌-◌, ◌==◌, ℕ, Bool, true, false, List, length, Option, None, Some, IfSome, ap, arith, eq-eqb, refl, subst, sym}
 use Rattle.std.specs.Prelude.{if◌then◌else◌}
+use Rattle.std.proofs.lemmas.Bool.{cond-false, cond-true, ne_eqb}
 use Rattle.std.proofs.lemmas.Bool.Decides.{nat_tests}
 use Rattle.textarea_clusters.specs.Stops.{column_back, first_stop}
 use Rattle.textarea_clusters.proofs.StopPlaces.{column_back_within, first_stop_from, first_stop_within}
@@ -19,10 +20,10 @@ use Rattle.tui_textarea.proofs.Settling.{stop_place}
 -- ---- stops and the positions that they replace
 
 -- the index of a position in a line
-back_upto : (document : DocumentState) (place : Place) → index_of document.text (stop_of Backward document place) ≤ index_of document.text place
+pub back_upto : (document : DocumentState) (place : Place) → index_of document.text (stop_of Backward document place) ≤ index_of document.text place
 back_upto document place = omega (arith, column_back_within document.ranges (line_of (lines document.text) place.0) place.0 place.1)
 
-ahead_from : (document : DocumentState) (place : Place) → index_of document.text place ≤ index_of document.text (stop_of Forward document place)
+pub ahead_from : (document : DocumentState) (place : Place) → index_of document.text place ≤ index_of document.text (stop_of Forward document place)
 ahead_from document place =
     let line = line_of (lines document.text) place.0 in
     omega (arith, first_stop_from document.ranges line place.0 place.1 (length line - place.1))
@@ -63,8 +64,26 @@ removes_whole state from to h made = removes_from_whole state from (whole_end st
 
 -- ---- beside the cursor
 
+-- the stop is another position in the line, or the same
+pub else_elsewhere : (place found stop : Place) → stop ≡ found → stop.1 ≢ place.1 → Some stop ≡ if_elsewhere place found
+else_elsewhere place found stop is apart =
+    ap Some is ∙ sym (cond-false (found.1 == place.1) None (Some found) (ne_eqb found.1 place.1 (λ e. apart (ap (λ (p : Place). p.1) is ∙ e))))
+
+pub same_elsewhere : (place found stop : Place) → stop ≡ found → stop.1 ≡ place.1 → None ≡ if_elsewhere place found
+same_elsewhere place found stop is same =
+    sym (cond-true (found.1 == place.1) None (Some found) (eq-eqb found.1 place.1 (ap (λ (p : Place). p.1) (sym is) ∙ same)))
+
+-- at the line's end there is no character after the cursor
+pub past_end : (document : DocumentState) → document.cursor.1 ≡ length (line_of (lines document.text) document.cursor.0)
+    → stop_of Forward document (past_cursor document) ≡ past_cursor document
+unfolding first_stop
+past_end document at_end =
+    let line = line_of (lines document.text) document.cursor.0 in
+    let none : length line - (document.cursor.1 + 1) ≡ 0 = omega (arith, at_end) in
+    ap (λ more. (document.cursor.0, first_stop document.ranges line document.cursor.0 (document.cursor.1 + 1) more)) none
+
 -- the start of more than the character before the cursor
-back_made : (document : DocumentState) (found : Place) → IsSound document → found ≡ stop_of Backward document (before_cursor document)
+pub back_made : (document : DocumentState) (found : Place) → IsSound document → found ≡ stop_of Backward document (before_cursor document)
     → IfSome (if_elsewhere (before_cursor document) found) (λ start. HasEffect document (Remove start document.cursor))
 back_made document found h is = by (found.1 == (before_cursor document).1) refl
   where
@@ -91,7 +110,7 @@ earlier_made state h = by state.settings.cursor_unit
     by unit.Cluster = back_made state.document (stop_of Backward state.document (before_cursor state.document)) h refl
 
 -- the end of more than the character after the cursor
-ahead_made : (document : DocumentState) (found : Place) → IsSound document → found ≡ stop_of Forward document (past_cursor document)
+pub ahead_made : (document : DocumentState) (found : Place) → IsSound document → found ≡ stop_of Forward document (past_cursor document)
     → IfSome (if_elsewhere (past_cursor document) found) (λ stop. HasEffect document (Remove document.cursor stop))
 ahead_made document found h is = by (found.1 == (past_cursor document).1) refl
   where

@@ -129,10 +129,14 @@ impl TextArea<'_> {
         ensures before { IfSome result (λ start. index_of self.now.document.text start
             < index_of self.now.document.text self.now.document.cursor) }
     {
+        self.document.is_sound();
         let (row, column) = self.document.cursor();
         let before = column.saturating_sub(1);
         let start = self.stop_of(AtomicCursorBias::Backward, (row, before));
-        if start.1 == before { None } else { Some(start) }
+        if start.1 == before {
+            return None;
+        }
+        Some(start)
     }
 
     // Returns where the removal of the character after the cursor ends, if that removes more.
@@ -157,16 +161,18 @@ impl TextArea<'_> {
             index_of self.now.document.text self.now.document.cursor
             < index_of self.now.document.text stop) }
     {
+        self.document.is_sound();
         let (row, column) = self.document.cursor();
-        if column == line_end(self.document.lines(), row).1 {
+        let end = line_end(self.document.lines(), row).1;
+        if column == end {
             return None;
         }
-        let stop = self.stop_of(AtomicCursorBias::Forward, (row, column + 1));
-        if stop.1 == column + 1 {
-            None
-        } else {
-            Some(stop)
+        let after = column + 1;
+        let stop = self.stop_of(AtomicCursorBias::Forward, (row, after));
+        if stop.1 == after {
+            return None;
         }
+        Some(stop)
     }
 
     // Returns the ends of what is replaced between two positions.
