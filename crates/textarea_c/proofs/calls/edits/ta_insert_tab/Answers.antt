@@ -13,5 +13,6 @@ returns c =
     lifted c.args.handle.now.stored.content c.put.new.self.stored.content c.flag-status.result
     (λ a b. TriesToInsert (not (bars_tab a.area) && inserts_tab a.area) (not (bars_tab a.area) && inserts_tab a.area) (if bars_tab a.area then a.area else settled Forward (tab_inserted a.area)) c.flag-status.result a b)
     c.in-Some.editor.value (with_area a c.insert_tab.new.self) a c.in-Some.ensures.taken c.deref_mut.ensures.value c.put.ensures
-    (tried_insertion c.insert_tab.result c.flag-status.result (not (bars_tab a.area) && inserts_tab a.area) (not (bars_tab a.area) && inserts_tab a.area) (if bars_tab a.area then a.area else settled Forward (tab_inserted a.area)) c.insert_tab.new.self a
+    (tried_insertion c.insert_tab.result c.flag-status.result (not (bars_tab a.area) && inserts_tab a.area) (not (bars_tab a.area) && inserts_tab a.area)
+    (if bars_tab a.area then a.area else settled Forward (tab_inserted a.area)) c.insert_tab.new.self a
     inserted.inserted inserted.ok inserted.err inserted.nothing c.flag-status.ensures.ok c.flag-status.ensures.no_memory)
