@@ -10,6 +10,7 @@ pub mod IndentedTexts
 pub mod MovedLines
 pub mod Betweens
 pub mod Ranges
+pub mod PastRanges
 pub mod Sounds
 pub mod Changing
 mod ChangeLogs

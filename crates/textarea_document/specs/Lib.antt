@@ -1,3 +1,5 @@
+pub mod PastRanges
+pub mod RangeHistory
 pub mod Changes
 pub mod ChangeLog
 pub mod DocumentState
