@@ -18,5 +18,6 @@ mod UnitCounts
 pub mod StepLaw
 pub mod DocumentWraps
 pub mod RangesOverSplices
+pub mod Covering
 pub mod Steps
 pub mod RowLemmas

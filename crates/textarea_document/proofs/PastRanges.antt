@@ -1,8 +1,8 @@
 -- The remembered ranges are valid for the texts before the edits, over each edit, undo and redo.
-use Rattle.std.proofs.Common.{◌≡◌, ◌∙◌, ℕ, zero, suc, ◌-◌, ◌==◌, Bool, true, false, cond, List, [], ◌∷◌, ◌++◌, length, take, drop, reverse, Option, Some, None, slice_get, sym, ap, refl, subst, arith}
-use Rattle.std.proofs.lemmas.Bool.{eqb-true, false≢true}
+use Rattle.std.proofs.Common.{◌≡◌, ◌∙◌, ℕ, zero, suc, ◌+◌, ◌-◌, ◌==◌, Bool, true, false, cond, List, [], ◌∷◌, ◌++◌, length, take, drop, reverse, Option, Some, None, slice_get, sym, ap, refl, subst, arith}
+use Rattle.std.proofs.lemmas.Bool.{eqb-true}
 use Rattle.std.proofs.lemmas.List.{append-nil, drop-drop, length-append, length-reverse, nil_from_length, reverse-append, take-append-drop}
-use Rattle.textarea_document.specs.Prelude.{ArePastRanges, AreValidBefore, AtomicRange, Fits, Log, PastRanges, Splice, Symbol, appended_log, applied, done_joined, inverse, group_forgotten, is_outgrown, joined_log, joins, lines, AreInOrder, AreValid}
+use Rattle.textarea_document.specs.Prelude.{AllBefore, ArePastRanges, AtomicRange, Fits, IsValidList, Log, PastRanges, Splice, Symbol, appended_log, applied, done_joined, inverse, group_forgotten, is_outgrown, joined_log, joins}
 use Rattle.textarea_document.specs.Prelude.{grown, merged, newest, next, ranges_before_newest, ranges_before_next, ranges_to_remember, recorded, remaining_done, texts_ahead, texts_back, texts_before, with_newest}
 use Rattle.textarea_text.specs.Splice.{CanUndo}
 use Rattle.textarea_text.proofs.TextPlaces.{takes_back}
@@ -32,78 +32,62 @@ texts_before-redone text done undone splice e fits =
     ap (λ (texts : List (List Symbol)). texts_ahead texts after (drop 1 undone)) back
     ∙ ap (texts_ahead (texts_back text (reverse done)) text) (sym (first_split undone splice e))
 
--- ---- lists of ranges
+-- ---- lists of ranges, with any property
 
-valid_rest : (text : List Symbol) (texts : List (List Symbol)) (before : List (List AtomicRange)) → AreValidBefore (text ∷ texts) before → AreValidBefore texts (drop 1 before)
-valid_rest text texts [] h = tt
-valid_rest text texts (ranges ∷ before) h = h.2
+module _ (Has : List Symbol → List AtomicRange → Type 0) where
+  all_rest : (text : List Symbol) (texts : List (List Symbol)) (before : List (List AtomicRange)) → AllBefore Has (text ∷ texts) before → AllBefore Has texts (drop 1 before)
+  all_rest text texts [] h = tt
+  all_rest text texts (ranges ∷ before) h = h.1
 
--- without those of the undone edits
-valid_ahead : (undone : List Splice) (texts : List (List Symbol)) (text : List Symbol) (before : List (List AtomicRange)) → AreValidBefore (texts_ahead texts text undone) before →
-    AreValidBefore texts (drop (length undone) before)
-valid_ahead [] texts text before h = h
-valid_ahead (splice ∷ later) texts text before h =
-    let one : length later + 1 ≡ suc (length later) = omega arith in
-    subst (AreValidBefore texts) (drop-drop 1 (length later) before ∙ ap (λ (n : ℕ). drop n before) one)
-    (valid_rest text texts (drop (length later) before) (valid_ahead later (text ∷ texts) (applied text splice) before h))
+  -- without those of the undone edits
+  pub all_ahead : (undone : List Splice) (texts : List (List Symbol)) (text : List Symbol) (before : List (List AtomicRange)) → AllBefore Has (texts_ahead texts text undone) before →
+      AllBefore Has texts (drop (length undone) before)
+  all_ahead [] texts text before h = h
+  all_ahead (splice ∷ later) texts text before h =
+      let one : length later + 1 ≡ suc (length later) = omega arith in
+      subst (AllBefore Has texts) (drop-drop 1 (length later) before ∙ ap (λ (n : ℕ). drop n before) one)
+      (all_rest text texts (drop (length later) before) (all_ahead later (text ∷ texts) (applied text splice) before h))
 
--- the newest ones
-valid_back : (newer older : List Splice) (text : List Symbol) (before : List (List AtomicRange)) → AreValidBefore (texts_back text (newer ++ older)) before →
-    AreValidBefore (texts_back text newer) (take (length newer) before)
-valid_back [] older text before h = tt
-valid_back (splice ∷ newer) older text [] h = tt
-valid_back (splice ∷ newer) older text (ranges ∷ before) h = (h.0, h.1, valid_back newer older (applied text (inverse splice)) before h.2)
+  -- the newest ones
+  all_back : (newer older : List Splice) (text : List Symbol) (before : List (List AtomicRange)) → AllBefore Has (texts_back text (newer ++ older)) before →
+      AllBefore Has (texts_back text newer) (take (length newer) before)
+  all_back [] older text before h = tt
+  all_back (splice ∷ newer) older text [] h = tt
+  all_back (splice ∷ newer) older text (ranges ∷ before) h = (h.0, all_back newer older (applied text (inverse splice)) before h.1)
 
--- one of them
-pub record IsValidList (text : List Symbol) (ranges : List AtomicRange) : Type 0 where
-  pub valid : AreValid (lines text) ranges
-  pub in_order : AreInOrder ranges
+  -- one of them
+  all_at : (index : ℕ) (text : List Symbol) (texts : List (List Symbol)) (before : List (List AtomicRange)) (ranges : List AtomicRange) → AllBefore Has (text ∷ texts) (drop index before) →
+      slice_get before index ≡ Some ranges → Has text ranges
+  all_at index text texts [] ranges h e = absurd cc
+  all_at zero text texts (first ∷ before) ranges h e =
+      let same : first ≡ ranges = cc in
+      subst (Has text) same h.0
+  all_at (suc index) text texts (first ∷ before) ranges h e = all_at index text texts before ranges h e
 
-valid_at : (index : ℕ) (text : List Symbol) (texts : List (List Symbol)) (before : List (List AtomicRange)) (ranges : List AtomicRange) → AreValidBefore (text ∷ texts) (drop index before) →
-    slice_get before index ≡ Some ranges → IsValidList text ranges
-valid_at index text texts [] ranges h e = absurd cc
-valid_at zero text texts (first ∷ before) ranges h e =
-    let same : first ≡ ranges = cc in
-    subst (IsValidList text) same (record { valid = h.0; in_order = h.1 })
-valid_at (suc index) text texts (first ∷ before) ranges h e = valid_at index text texts before ranges h e
+  -- ---- undo and redo
 
--- ---- undo and redo
+  pub newest_has : (text : List Symbol) (log : Log) (past : PastRanges) (splice : Splice) (ranges : List AtomicRange) → AllBefore Has (texts_before text log.done log.undone) past.before → newest log ≡ Some splice →
+      ranges_before_newest past log ≡ Some ranges → Has (applied text (inverse splice)) ranges
+  newest_has text log past splice ranges h e is =
+      let before = applied text (inverse splice) in
+      let older = reverse (take (length log.done - 1) log.done) in
+      all_at (length log.undone) before (texts_back before older) past.before ranges
+      (subst (λ (d : List Splice). AllBefore Has (texts_back text d) (drop (length log.undone) past.before)) (reverse_last log.done splice e)
+      (all_ahead log.undone (texts_back text (reverse log.done)) text past.before h))
+      is
 
-pub newest_valid : (text : List Symbol) (log : Log) (past : PastRanges) (splice : Splice) (ranges : List AtomicRange) → ArePastRanges (texts_before text log.done log.undone) past → newest log ≡ Some splice →
-    ranges_before_newest past log ≡ Some ranges → IsValidList (applied text (inverse splice)) ranges
-newest_valid text log past splice ranges h e is =
-    let before = applied text (inverse splice) in
-    let older = reverse (take (length log.done - 1) log.done) in
-    valid_at (length log.undone) before (texts_back before older) past.before ranges
-    (subst (λ (d : List Splice). AreValidBefore (texts_back text d) (drop (length log.undone) past.before)) (reverse_last log.done splice e)
-    (valid_ahead log.undone (texts_back text (reverse log.done)) text past.before h.valid))
-    is
-
-pub next_valid : (text : List Symbol) (log : Log) (past : PastRanges) (splice : Splice) (ranges : List AtomicRange) → ArePastRanges (texts_before text log.done log.undone) past → next log ≡ Some splice →
-    ranges_before_next past log ≡ Some ranges → IsValidList text ranges
-next_valid text log past splice ranges h e is =
-    let texts = texts_back text (reverse log.done) in
-    let later = drop 1 log.undone in
-    let split = first_split log.undone splice e in
-    let at : length log.undone - 1 ≡ length later = omega (arith, ap length split) in
-    valid_at (length later) text texts past.before ranges
-    (valid_ahead later (text ∷ texts) (applied text splice) past.before (subst (λ (u : List Splice). AreValidBefore (texts_ahead texts text u) past.before) split h.valid))
-    (ap (slice_get past.before) (sym at) ∙ is)
+  pub next_has : (text : List Symbol) (log : Log) (past : PastRanges) (splice : Splice) (ranges : List AtomicRange) → AllBefore Has (texts_before text log.done log.undone) past.before → next log ≡ Some splice →
+      ranges_before_next past log ≡ Some ranges → Has text ranges
+  next_has text log past splice ranges h e is =
+      let texts = texts_back text (reverse log.done) in
+      let later = drop 1 log.undone in
+      let split = first_split log.undone splice e in
+      let at : length log.undone - 1 ≡ length later = omega (arith, ap length split) in
+      all_at (length later) text texts past.before ranges
+      (all_ahead later (text ∷ texts) (applied text splice) past.before (subst (λ (u : List Splice). AllBefore Has (texts_ahead texts text u) past.before) split h))
+      (ap (slice_get past.before) (sym at) ∙ is)
 
 -- ---- an edit
-
--- the remembered ranges, after an edit of this text that leaves this log, are those of its texts
-abbrev Remembers : List Symbol → PastRanges → Log → Splice → Log → Option (List AtomicRange) → Type 0
-Remembers text past log splice after kept =
-    ArePastRanges (texts_before (applied text splice) after.done after.undone) (with_newest past kept (length log.undone) (length after.done))
-
--- no ranges are remembered
-none_valid : (texts : List (List Symbol)) (past : PastRanges) → (past.on ≡ false → past.before ≡ []) → past.before ≡ [] → ArePastRanges texts past
-none_valid texts past off is = record { off = off; valid = subst (AreValidBefore texts) (sym is) tt }
-
--- the same lists for the same texts
-same_texts : (texts others : List (List Symbol)) (past : PastRanges) → others ≡ texts → ArePastRanges texts past → ArePastRanges others past
-same_texts texts others past is h = subst (λ (ts : List (List Symbol)). ArePastRanges ts past) (sym is) h
 
 -- there are no edits
 no_texts : (text : List Symbol) (done undone : List Splice) → done ≡ [] → undone ≡ [] → texts_before text done undone ≡ []
@@ -130,45 +114,83 @@ remaining_front : (full : Bool) (count : ℕ) (done : List Splice) → (dropped 
 remaining_front true count done = (reverse (take count done), ap reverse (sym (take-append-drop count done)) ∙ reverse-append (take count done) (drop count done))
 remaining_front false count done = ([], sym (append-nil (reverse done)))
 
-appended_valid : (text : List Symbol) (ranges : List AtomicRange) (log : Log) (past : PastRanges) (splice : Splice) → Fits text splice → IsValidList text ranges →
-    ArePastRanges (texts_before text log.done log.undone) past →
-    AreValidBefore (texts_back (applied text splice) (reverse (remaining_done log ++ splice ∷ []))) (take (length (remaining_done log ++ splice ∷ [])) (ranges ∷ drop (length log.undone) past.before))
-appended_valid text ranges log past splice fits here h =
-    let remaining = remaining_done log in
-    let rest = drop (length log.undone) past.before in
-    let front = remaining_front (is_full log) (oldest_group log) log.done in
-    let texts : texts_back (applied text splice) (reverse (remaining ++ splice ∷ [])) ≡ text ∷ texts_back text (reverse remaining) =
-    ap (texts_back (applied text splice)) (reverse-append remaining (splice ∷ []))
-    ∙ ap (λ (t : List Symbol). t ∷ texts_back t (reverse remaining)) (takes_back text splice fits).back in
-    let size : length (remaining ++ splice ∷ []) ≡ suc (length (reverse remaining)) = omega (arith, length-append remaining (splice ∷ []), length-reverse remaining) in
-    let older : AreValidBefore (texts_back text (reverse remaining)) (take (length (reverse remaining)) rest) =
-    valid_back (reverse remaining) front.0 text rest
-    (subst (λ (d : List Splice). AreValidBefore (texts_back text d) rest) front.1 (valid_ahead log.undone (texts_back text (reverse log.done)) text past.before h.valid)) in
-    subst (λ (ts : List (List Symbol)). AreValidBefore ts (take (length (remaining ++ splice ∷ [])) (ranges ∷ rest))) (sym texts)
-    (subst (λ (n : ℕ). AreValidBefore (text ∷ texts_back text (reverse remaining)) (take n (ranges ∷ rest))) (sym size) (here.valid, here.in_order, older))
+-- none are remembered if they aren't to be
+pub off_after : (past : PastRanges) (kept : Option (List AtomicRange)) (ranges : List AtomicRange) (log : Log) (splice : Splice) (typed : Bool) (now undone done : ℕ) → (past.on ≡ false → past.before ≡ []) →
+    ranges_to_remember past ranges log splice typed now ≡ kept → (with_newest past kept undone done).on ≡ false → (with_newest past kept undone done).before ≡ []
+off_after past None ranges log splice typed now undone done off is = off
+off_after past (Some before) ranges log splice typed now undone done off is =
+    λ no.
+        let never : None ≡ Some before = ap (λ (on : Bool). cond on (cond (joins log splice typed now) None (Some ranges)) None) (sym no) ∙ is in
+        absurd cc
 
+module _ (Has : List Symbol → List AtomicRange → Type 0) where
+  -- the lists after an edit of this text that leaves this log have the property
+  abbrev Remembers : List Symbol → PastRanges → Log → Splice → Log → Option (List AtomicRange) → Type 0
+  Remembers text past log splice after kept =
+      AllBefore Has (texts_before (applied text splice) after.done after.undone) (with_newest past kept (length log.undone) (length after.done)).before
+
+  same_texts : (texts others : List (List Symbol)) (before : List (List AtomicRange)) → others ≡ texts → AllBefore Has texts before → AllBefore Has others before
+  same_texts texts others before is h = subst (λ (ts : List (List Symbol)). AllBefore Has ts before) (sym is) h
+
+  none_has : (texts : List (List Symbol)) (before : List (List AtomicRange)) → before ≡ [] → AllBefore Has texts before
+  none_has texts before is = subst (AllBefore Has texts) (sym is) tt
+
+  appended_has : (text : List Symbol) (ranges : List AtomicRange) (log : Log) (past : PastRanges) (splice : Splice) → Fits text splice → Has text ranges →
+      AllBefore Has (texts_before text log.done log.undone) past.before →
+      AllBefore Has (texts_back (applied text splice) (reverse (remaining_done log ++ splice ∷ []))) (take (length (remaining_done log ++ splice ∷ [])) (ranges ∷ drop (length log.undone) past.before))
+  appended_has text ranges log past splice fits here h =
+      let remaining = remaining_done log in
+      let rest = drop (length log.undone) past.before in
+      let front = remaining_front (is_full log) (oldest_group log) log.done in
+      let texts : texts_back (applied text splice) (reverse (remaining ++ splice ∷ [])) ≡ text ∷ texts_back text (reverse remaining) =
+      ap (texts_back (applied text splice)) (reverse-append remaining (splice ∷ []))
+      ∙ ap (λ (t : List Symbol). t ∷ texts_back t (reverse remaining)) (takes_back text splice fits).back in
+      let size : length (remaining ++ splice ∷ []) ≡ suc (length (reverse remaining)) = omega (arith, length-append remaining (splice ∷ []), length-reverse remaining) in
+      let older : AllBefore Has (texts_back text (reverse remaining)) (take (length (reverse remaining)) rest) =
+      all_back Has (reverse remaining) front.0 text rest
+      (subst (λ (d : List Splice). AllBefore Has (texts_back text d) rest) front.1 (all_ahead Has log.undone (texts_back text (reverse log.done)) text past.before h)) in
+      subst (λ (ts : List (List Symbol)). AllBefore Has ts (take (length (remaining ++ splice ∷ [])) (ranges ∷ rest))) (sym texts)
+      (subst (λ (n : ℕ). AllBefore Has (text ∷ texts_back text (reverse remaining)) (take n (ranges ∷ rest))) (sym size) (here, older))
+
+  pub edited_has : (text : List Symbol) (ranges : List AtomicRange) (log : Log) (past : PastRanges) (splice : Splice) (typed : Bool) (now : ℕ) → IsSoundLog (record { text = text; log = log }) → Fits text splice →
+      (past.on ≡ false → past.before ≡ []) → Has text ranges → AllBefore Has (texts_before text log.done log.undone) past.before →
+      Remembers text past log splice (recorded log splice typed now) (ranges_to_remember past ranges log splice typed now)
+  edited_has text ranges log past splice typed now sound fits off here h = by past.on (joins log splice typed now) (log.maximum == 0) (is_outgrown log) refl refl refl
+    where
+      empty : (log.maximum == 0) ≡ true → (log.done ≡ []) × (log.undone ≡ [])
+      empty e =
+          let none = eqb-true log.maximum 0 e in
+          (nil_from_length log.done (omega (arith, sound.bounded)), nil_from_length log.undone (omega (arith, sound.bounded)))
+
+      by : (on joined none outgrown : Bool) → past.on ≡ on → joins log splice typed now ≡ joined → (log.maximum == 0) ≡ none →
+          Remembers text past log splice (cond none log (cond joined (joined_log log splice now) (cond outgrown (group_forgotten log) (appended_log log splice typed now)))) (cond on (cond joined None (Some ranges)) None)
+      by false joined none outgrown on joins_it max = none_has _ past.before (off on)
+      by true true true outgrown on joins_it max =
+          let no = empty max in
+          same_texts (texts_before text log.done log.undone) (texts_before (applied text splice) log.done log.undone) past.before
+          (no_texts (applied text splice) log.done log.undone no.0 no.1 ∙ sym (no_texts text log.done log.undone no.0 no.1)) h
+      by true true false outgrown on joins_it max =
+          same_texts (texts_before text log.done log.undone) (texts_before (applied text splice) (done_joined log splice) []) past.before (texts_before-joined text log splice typed now sound fits joins_it) h
+      by true false true outgrown on joins_it max =
+          let before = ranges ∷ drop (length log.undone) past.before in
+          none_has _ (take (length log.done) before) (ap (λ (d : List Splice). take (length d) before) (empty max).0)
+      by true false false true on joins_it max = tt
+      by true false false false on joins_it max = appended_has text ranges log past splice fits here h
+
+-- the remembered ranges after an edit are valid
 pub past_edited : (text : List Symbol) (ranges : List AtomicRange) (log : Log) (past : PastRanges) (splice : Splice) (typed : Bool) (now : ℕ) → IsSoundLog (record { text = text; log = log }) → Fits text splice →
     IsValidList text ranges → ArePastRanges (texts_before text log.done log.undone) past →
-    Remembers text past log splice (recorded log splice typed now) (ranges_to_remember past ranges log splice typed now)
-past_edited text ranges log past splice typed now sound fits here h = by past.on (joins log splice typed now) (log.maximum == 0) (is_outgrown log) refl refl refl
-  where
-    empty : (log.maximum == 0) ≡ true → (log.done ≡ []) × (log.undone ≡ [])
-    empty e =
-        let none = eqb-true log.maximum 0 e in
-        (nil_from_length log.done (omega (arith, sound.bounded)), nil_from_length log.undone (omega (arith, sound.bounded)))
+    ArePastRanges (texts_before (applied text splice) (recorded log splice typed now).done (recorded log splice typed now).undone)
+    (with_newest past (ranges_to_remember past ranges log splice typed now) (length log.undone) (length (recorded log splice typed now).done))
+past_edited text ranges log past splice typed now sound fits here h = record {
+  off = off_after past (ranges_to_remember past ranges log splice typed now) ranges log splice typed now (length log.undone) (length (recorded log splice typed now).done) h.off refl;
+  valid = edited_has IsValidList text ranges log past splice typed now sound fits h.off here h.valid;
+}
 
-    by : (on joined none outgrown : Bool) → past.on ≡ on → joins log splice typed now ≡ joined → (log.maximum == 0) ≡ none →
-        Remembers text past log splice (cond none log (cond joined (joined_log log splice now) (cond outgrown (group_forgotten log) (appended_log log splice typed now)))) (cond on (cond joined None (Some ranges)) None)
-    by false joined none outgrown on joins_it max = none_valid _ past h.off (h.off on)
-    by true true true outgrown on joins_it max =
-        let no = empty max in
-        same_texts (texts_before text log.done log.undone) (texts_before (applied text splice) log.done log.undone) past
-        (no_texts (applied text splice) log.done log.undone no.0 no.1 ∙ sym (no_texts text log.done log.undone no.0 no.1)) h
-    by true true false outgrown on joins_it max =
-        same_texts (texts_before text log.done log.undone) (texts_before (applied text splice) (done_joined log splice) []) past (texts_before-joined text log splice typed now sound fits joins_it) h
-    by true false true outgrown on joins_it max =
-        let before = ranges ∷ drop (length log.undone) past.before in
-        let none : take (length log.done) before ≡ [] = ap (λ (d : List Splice). take (length d) before) (empty max).0 in
-        none_valid _ (record past { before = take (length log.done) before }) (λ off. none) none
-    by true false false true on joins_it max = record { off = λ off. refl; valid = tt }
-    by true false false false on joins_it max = record { off = λ off. absurd (false≢true (sym off ∙ on)); valid = appended_valid text ranges log past splice fits here h }
+pub newest_valid : (text : List Symbol) (log : Log) (past : PastRanges) (splice : Splice) (ranges : List AtomicRange) → ArePastRanges (texts_before text log.done log.undone) past → newest log ≡ Some splice →
+    ranges_before_newest past log ≡ Some ranges → IsValidList (applied text (inverse splice)) ranges
+newest_valid text log past splice ranges h e is = newest_has IsValidList text log past splice ranges h.valid e is
+
+pub next_valid : (text : List Symbol) (log : Log) (past : PastRanges) (splice : Splice) (ranges : List AtomicRange) → ArePastRanges (texts_before text log.done log.undone) past → next log ≡ Some splice →
+    ranges_before_next past log ≡ Some ranges → IsValidList text ranges
+next_valid text log past splice ranges h e is = next_has IsValidList text log past splice ranges h.valid e is

@@ -92,10 +92,10 @@ follows_unless_remembered old new splices none h = record { text = h.text; range
 
 -- ---- each range comes from an old one
 
-record From {X Y : Type 0} (f : X → Option Y) (xs : List X) (y : Y) : Type 0 where
-  x : X
-  stored : Contains xs x
-  is : f x ≡ Some y
+pub record From {X Y : Type 0} (f : X → Option Y) (xs : List X) (y : Y) : Type 0 where
+  pub x : X
+  pub stored : Contains xs x
+  pub is : f x ≡ Some y
 
 from_rest : {X Y : Type 0} (f : X → Option Y) (first : X) (xs : List X) (y : Y) → From f xs y → From f (first ∷ xs) y
 from_rest f first xs y found = record { x = found.x; stored = (suc found.stored.0, suc-le-suc found.stored.1, found.stored.2); is = found.is }
@@ -110,7 +110,7 @@ from_list : {X Y : Type 0} (f : X → Option Y) (xs : List X) (y : Y) → Contai
 from_list f [] y h = absurd (omega (arith, h.1))
 from_list f (x ∷ xs) y h = from_cons f x xs y (f x) refl (from_list f xs y) h
 
-from_moved : (ranges : List AtomicRange) (splice : Splice) (range : AtomicRange) → Contains (moved_ranges ranges splice) range → From (moved_range splice) ranges range
+pub from_moved : (ranges : List AtomicRange) (splice : Splice) (range : AtomicRange) → Contains (moved_ranges ranges splice) range → From (moved_range splice) ranges range
 unfolding moved_ranges
 from_moved ranges splice range h = from_list (moved_range splice) ranges range h
 

@@ -1,6 +1,6 @@
 -- Each step preserves the invariant of documents.
 use Rattle.std.proofs.Common.{◌≡◌, ℕ, zero, suc, Bool, true, false, cond, List, [], length, Option, Some, None, Result, Ok, Err, sym, ap, refl, ◌∙◌, subst, arith}
-use Rattle.textarea_document.specs.Prelude.{ArePastRanges, PastRanges, no_past_ranges, past_ranges_after, ranges_before_newest, ranges_before_next, ranges_or, texts_before, LoggedChanges, with_splice, group_begun, group_ended, is_open}
+use Rattle.textarea_document.specs.Prelude.{ArePastRanges, IsValidList, PastRanges, history_forgotten, no_past_ranges, past_ranges_set, undo_ranges_set, past_ranges_after, ranges_before_newest, ranges_before_next, ranges_or, texts_before, LoggedChanges, with_splice, group_begun, group_ended, is_open}
 use Rattle.textarea_history.specs.declared.history.groups.Group.{Group}
 use Rattle.textarea_history.specs.declared.history.groups.Group.TheVariants.{Closed, Empty}
 use Rattle.textarea_document.specs.Prelude.{IfSome, OnErr, OnOk, Symbol, lines, Place, IsPlace, Splice, Fits, applied, inverse, place_after, Log, empty_log, redone_log, newest}
@@ -11,7 +11,7 @@ use Rattle.textarea_text.proofs.TextPlaces.{IsPlace-end, takes_back}
 use Rattle.textarea_history.specs.HistoryLaw.{IsSoundLog as LogIsSound}
 use Rattle.textarea_history.proofs.LogLaws.{each_fits, newest_back, recorded_whole, sound_redone_by, sound_undone_by, sound_edited as log_edited}
 use Rattle.textarea_ranges.proofs.Moving.{in_order_moved, valid_moved}
-use Rattle.textarea_document.proofs.PastRanges.{IsValidList, newest_valid, next_valid, past_edited, texts_before-redone, texts_before-undone}
+use Rattle.textarea_document.proofs.PastRanges.{newest_valid, next_valid, past_edited, texts_before-redone, texts_before-undone}
 use Rattle.textarea_document.proofs.Ranges.{valid_none}
 use Rattle.textarea_lines.proofs.PutSettings.{text_stays}
 
@@ -110,6 +110,28 @@ sound_past document past h before = record {
 -- none are
 pub none_past : (text : List Symbol) (done undone : List Splice) (on : Bool) → ArePastRanges (texts_before text done undone) (no_past_ranges on)
 none_past text done undone on = record { off = λ off. refl; valid = tt }
+
+-- they are to be remembered from now on, or not
+pub sound_undo_ranges : (document : DocumentState) (on : Bool) → IsSound document → IsSound (undo_ranges_set document on)
+sound_undo_ranges document true h =
+    sound_past document (past_ranges_set document.past_ranges true) h (record { off = λ off. absurd cc; valid = h.past.valid })
+sound_undo_ranges document false h =
+    sound_past document (past_ranges_set document.past_ranges false) h (none_past document.text document.log.done document.log.undone false)
+
+-- no edit is
+pub sound_forgotten : (document : DocumentState) (maximum : ℕ) → IsSound document → IsSound (history_forgotten document maximum)
+sound_forgotten document maximum h = record {
+  cursor = h.cursor;
+  anchor = h.anchor;
+  ranges = h.ranges;
+  in_order = h.in_order;
+  undo = tt;
+  redo = tt;
+  bounded = omega arith;
+  marks = refl;
+  whole = refl;
+  past = none_past document.text [] [] document.past_ranges.on;
+}
 
 -- ---- groups
 

@@ -13,6 +13,7 @@ pub mod DocumentLaw
 pub mod Sound
 pub mod ChangesLead
 pub mod RangesOverSplices
+pub mod Covered
 pub mod Splices
 pub mod Replacing
 pub mod ReplacedText

@@ -67,14 +67,18 @@ texts_ahead texts text (splice ∷ later) = texts_ahead (text ∷ texts) (applie
 abbrev pub texts_before : List Symbol → List Splice → List Splice → List (List Symbol)
 texts_before text done undone = texts_ahead (texts_back text (reverse done)) text undone
 
--- each list is valid for its text, and sorted; there are at most as many lists as texts
-abbrev pub AreValidBefore : List (List Symbol) → List (List AtomicRange) → Type 0
-AreValidBefore texts [] = Unit {0}
-AreValidBefore [] (ranges ∷ before) = ⊥
-AreValidBefore (text ∷ texts) (ranges ∷ before) =
-    AreValid (lines text) ranges × AreInOrder ranges × AreValidBefore texts before
+-- each list of ranges has this property with its text; there are at most as many lists as texts
+abbrev pub AllBefore : (List Symbol → List AtomicRange → Type 0) → List (List Symbol) → List (List AtomicRange) → Type 0
+AllBefore Has texts [] = Unit {0}
+AllBefore Has [] (ranges ∷ before) = ⊥
+AllBefore Has (text ∷ texts) (ranges ∷ before) = Has text ranges × AllBefore Has texts before
 
--- the remembered ranges are those of these texts, and there are none if they aren't to be remembered
+-- the ranges are valid for the text, and sorted
+pub record IsValidList (text : List Symbol) (ranges : List AtomicRange) : Type 0 where
+  pub valid : AreValid (lines text) ranges
+  pub in_order : AreInOrder ranges
+
+-- the remembered ranges are valid for these texts, and there are none if they aren't to be remembered
 pub record ArePastRanges (texts : List (List Symbol)) (past : PastRanges) : Type 0 where
   pub off : past.on ≡ false → past.before ≡ []
-  pub valid : AreValidBefore texts past.before
+  pub valid : AllBefore IsValidList texts past.before

@@ -286,7 +286,7 @@ impl Document {
         self.cursor = place;
         self.anchor = None;
         self.ranges.clear();
-        self.range_history.clear();
+        self.range_history.forget();
         self.history = history;
         self.changes.put(change);
         Ok(())
@@ -306,7 +306,7 @@ impl Document {
     pub fn set_max_histories(&mut self, max_histories: usize)
         ensures { self.new ≡ history_forgotten self.old max_histories }
     {
-        self.range_history.clear();
+        self.range_history.forget();
         self.history = History::new(self.text_layout.allocator(), max_histories);
     }
 }

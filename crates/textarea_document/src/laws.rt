@@ -1,6 +1,6 @@
 //! Laws of documents and their visual rows, each the contract of a function that does nothing.
 ghost use Rattle.std.specs.Prelude.{◌≡◌, ℕ, Bool, false, List, [], ◌∷◌, Contains, None, Option};
-ghost use Rattle.textarea_document.specs.Prelude.{redo_splices, undo_splices, LayoutSettings, AtomicRange, TakesRange, moved_range, Place, end, Fits, Splice, Symbol, WrapsAll, WrapsBySettings, WrapsByWidth, SplicedBy, SplicesBy, HasEffect, EditStep, splice_of_step, stepped, AllStayOrAreDropped, AllStemFrom, RangesFollowPast, RangesFollowSplices, RangesStayWhole, after_edit, after_redo, after_undo, SplitsNoRange, HasRowsAt, IsAboveCursor, IsBelowCursor, with_inner_width, with_layout_settings, IsSound, DocumentState, fresh_document, ChangesLead, lines_replaced};
+ghost use Rattle.textarea_document.specs.Prelude.{redo_splices, undo_splices, LayoutSettings, AtomicRange, TakesRange, moved_range, Place, end, Fits, Splice, Symbol, WrapsAll, WrapsBySettings, WrapsByWidth, SplicedBy, SplicesBy, HasEffect, EditStep, splice_of_step, stepped, AllStayOrAreDropped, AllStemFrom, RangesFollowPast, RangesFollowSplices, RangesStayWhole, after_edit, after_redo, after_undo, SplitsNoRange, HasRowsAt, IsAboveCursor, IsBelowCursor, with_inner_width, with_layout_settings, IsSound, DocumentState, fresh_document, CoversNoMore, ChangesLead, lines_replaced};
 ghost use Rattle.textarea_document.specs.ReplacedText.{AreReplaceable, with_replaced};
 ghost use Rattle.textarea_document.specs.Replacing.{all_replaced};
 
@@ -81,6 +81,22 @@ pub fn ranges_follow_splices()
         IsSound old → RangesFollowSplices old splices new → AllStemFrom old splices new }
     ensures dropped { (old new : DocumentState) (splices : List Splice) →
         RangesFollowSplices old splices new → AllStayOrAreDropped old splices new }
+{
+    ranges_follow_the_text();
+}
+
+/// What ranges cover stays what ranges covered before: after an edit, an undo or a redo each range
+/// of the document, and each that is remembered, covers characters that one of them covered before
+/// it, in the text of its time. So each range stems from the last ones that were set, also one that an
+/// undo gives back.
+pub fn ranges_cover_no_more()
+    ensures edited { (document : DocumentState) (splice : Splice) (typed : Bool) (now : ℕ) →
+        IsSound document → Fits document.text splice →
+        CoversNoMore document (after_edit document splice typed now) }
+    ensures undone { (document : DocumentState) → IsSound document →
+        CoversNoMore document (after_undo document) }
+    ensures redone { (document : DocumentState) → IsSound document →
+        CoversNoMore document (after_redo document) }
 {
     ranges_follow_the_text();
 }

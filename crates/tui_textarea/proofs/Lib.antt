@@ -50,6 +50,7 @@ mod CursorLine
 pub mod CallWraps
 mod RangesOverCalls
 mod RangesOverRuns
+mod Covering
 mod ChangesOverCalls
 mod ChangesOverRuns
 pub mod Runs

@@ -12,7 +12,11 @@ use Rattle.textarea_text.specs.Between.{clip}
 use Rattle.textarea_text.specs.Place.{Place}
 use Rattle.textarea_text.specs.Splice.{Fits, Splice}
 use Rattle.textarea_text.specs.Text.{Symbol, Break, Character, lines}
+use Rattle.textarea_history.specs.Groups.{is_open}
+use Rattle.textarea_history.specs.Log.{group_begun, group_ended}
+use Rattle.textarea_history.specs.declared.history.groups.Group.TheVariants.{Closed, Empty}
 use Rattle.textarea_document.specs.Changes.{LoggedChanges}
+use Rattle.textarea_document.specs.Covered.{covered_past}
 use Rattle.textarea_document.specs.DocumentRows.{text_and_layout}
 use Rattle.textarea_document.specs.DocumentState.{DocumentState}
 use Rattle.textarea_document.specs.Edits.{Insert, HasEffect, Remove, RemoveBefore, RemoveAfter, RemoveBreak, EditStep, splice_of_step, stepped}
@@ -25,7 +29,7 @@ use Rattle.textarea_document.specs.Sound.{IsSound}
 use Rattle.textarea_document.specs.Splices.{after_splices, before_splices, break_splices, cursor_range_splices, insertion_splices, range_splices_or}
 use Rattle.textarea_document.specs.Splices.{removal_splices, selected_splices}
 use Rattle.textarea_document.specs.Target.{word_end_after, word_start_before}
-use Rattle.textarea_document.proofs.Sounds.{sound_edited}
+use Rattle.textarea_document.proofs.Sounds.{sound_edited, sound_forgotten}
 use Rattle.textarea_document.proofs.StepLaw.{step_keeps}
 use Rattle.tui_textarea.specs.Edits.{breaks_line, char_inserted, char_or_break_inserted, fitting_spaces, line_broken, newline_inserted, str_inserted, symbols_or_none_inserted}
 use Rattle.tui_textarea.specs.Edits.{tab_inserted, tab_or_spaces_inserted, typed_character_inserted}
@@ -46,11 +50,18 @@ use Rattle.tui_textarea.proofs.Removing.{ahead_made, range_removal_made, line_en
 use Rattle.tui_textarea.proofs.SoundStates.{clipped, sound_cursor, sound_from, sound_in_group, sound_unanchored}
 
 -- the visible side of a document's text: its layout and ranges, and its log of changes
+abbrev pub Visible : Type 0
+Visible = TextAndLayout × List AtomicRange × LoggedChanges
+
+abbrev pub visible : DocumentState → Visible
+visible document = (text_and_layout document, document.ranges, document.changes)
+
+-- the same with what the remembered ranges cover
 abbrev pub LayoutAndRanges : Type 0
-LayoutAndRanges = TextAndLayout × List AtomicRange × LoggedChanges
+LayoutAndRanges = TextAndLayout × List AtomicRange × LoggedChanges × List (List ℕ)
 
 abbrev pub layout_and_ranges : DocumentState → LayoutAndRanges
-layout_and_ranges document = (text_and_layout document, document.ranges, document.changes)
+layout_and_ranges document = (text_and_layout document, document.ranges, document.changes, covered_past document)
 
 -- ---- what leaves text, layout and ranges unchanged
 
@@ -58,6 +69,21 @@ move_unchanged : (state : State) (shift : Bool) (found : Option Place)
     → layout_and_ranges (after_move_by state shift found).document ≡ layout_and_ranges state.document
 move_unchanged state shift None = refl
 move_unchanged state shift (Some place) = refl
+
+-- a group that begins or ends
+pub begun_unchanged : (document : DocumentState) → layout_and_ranges (record document { log = group_begun document.log }) ≡ layout_and_ranges document
+begun_unchanged document = by (is_open document.log.group)
+  where
+    by : (b : Bool) → layout_and_ranges (record document { log = if b then document.log else record document.log { run_open = false; group = Empty } }) ≡ layout_and_ranges document
+    by true = refl
+    by false = refl
+
+pub ended_unchanged : (document : DocumentState) → layout_and_ranges (record document { log = group_ended document.log }) ≡ layout_and_ranges document
+ended_unchanged document = by (is_open document.log.group)
+  where
+    by : (b : Bool) → layout_and_ranges (record document { log = if b then record document.log { run_open = false; group = Closed } else document.log }) ≡ layout_and_ranges document
+    by true = refl
+    by false = refl
 
 pub moves_unchanged : (old new : State) (shift : Bool) (cursor_move : CursorMove) → IsMovedWith old shift cursor_move new
     → layout_and_ranges new.document ≡ layout_and_ranges old.document
@@ -74,14 +100,16 @@ some_symbols [] e = absurd cc
 some_symbols (symbol ∷ symbols) e = omega arith
 
 -- A relation of two documents and the splices between them. No splices relate documents of the same
--- text, layout, ranges and log of changes; a splice that fits and splits no range relates a document to the one
--- after its edit, whatever its cursor and anchor; and splices compose.
+-- text, layout, ranges and log of changes, if their remembered ranges cover the same or the new one has none; a
+-- splice that fits and splits no range relates a document to the one after its edit, whatever its cursor and
+-- anchor; and splices compose.
 pub record Reckoning (By : DocumentState → List Splice → DocumentState → Type 0) : Type 0 where
   pub none : (old new : DocumentState) → layout_and_ranges new ≡ layout_and_ranges old → By old [] new
   pub same : (old new other : DocumentState) (splices : List Splice) → layout_and_ranges other ≡ layout_and_ranges new → By old splices new → By old splices other
   pub two : (old between new : DocumentState) (first second : List Splice) → By old first between → By between second new → By old (first ++ second) new
-  pub one : (document : DocumentState) (splice : Splice) (typed : Bool) (now : ℕ) → Fits document.text splice → SplitsNoRange document.ranges splice
+  pub one : (document : DocumentState) (splice : Splice) (typed : Bool) (now : ℕ) → IsSound document → Fits document.text splice → SplitsNoRange document.ranges splice
       → By document (splice ∷ []) (after_edit document splice typed now)
+  pub forgotten : (old new : DocumentState) → visible new ≡ visible old → new.past_ranges.before ≡ [] → By old [] new
 
 module _ (By : DocumentState → List Splice → DocumentState → Type 0) (by : Reckoning By) where
   -- the relation, and that the new document is sound
@@ -97,7 +125,7 @@ module _ (By : DocumentState → List Splice → DocumentState → Type 0) (by :
 
   pub edited : (document : DocumentState) (splice : Splice) (typed : Bool) (now : ℕ) → IsSound document → Fits document.text splice
       → SplitsNoRange document.ranges splice → Sound document (splice ∷ []) (after_edit document splice typed now)
-  edited document splice typed now h fits whole = (by.one document splice typed now fits whole, sound_edited document splice typed now h fits)
+  edited document splice typed now h fits whole = (by.one document splice typed now h fits whole, sound_edited document splice typed now h fits)
 
   -- the document has another cursor and anchor than after these splices
   pub moved : (old new other : DocumentState) (splices : List Splice) → layout_and_ranges other ≡ layout_and_ranges new → IsSound other
@@ -302,8 +330,7 @@ module _ (By : DocumentState → List Splice → DocumentState → Type 0) (by :
   single_by state true h =
       by_test (From state []) (has_several_lines state) state (made_single state)
       (λ several. kept state.document state.document refl h)
-      (λ one. kept state.document (made_single state).document refl
-      (record { cursor = h.cursor; anchor = h.anchor; ranges = h.ranges; in_order = h.in_order; undo = tt; redo = tt; bounded = omega arith; marks = refl; whole = refl }))
+      (λ one. (by.forgotten state.document (made_single state).document refl refl, sound_forgotten state.document state.document.log.maximum h))
 
   -- ---- in a group of their own
 

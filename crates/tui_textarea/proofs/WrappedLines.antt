@@ -10,7 +10,7 @@ use Rattle.textarea_document.specs.Sound.{IsSound}
 use Rattle.textarea_document.specs.Splices.{redo_splices, undo_splices}
 use Rattle.textarea_document.specs.DocumentState.{DocumentState}
 use Rattle.tui_textarea.proofs.Acting.{Past}
-use Rattle.tui_textarea.proofs.Stepping.{Reckoning, LayoutAndRanges}
+use Rattle.tui_textarea.proofs.Stepping.{Reckoning, LayoutAndRanges, Visible}
 
 -- the law of documents for an edit, an undo and a redo
 abbrev pub EditsWrap : Type 0
@@ -35,7 +35,8 @@ reckoned cut = record {
   none = λ old new same. ap (λ (s : LayoutAndRanges). s.0) same;
   same = λ old new other splices is h. subst (WrapsForSplices (text_and_layout old) splices) (sym (ap (λ (s : LayoutAndRanges). s.0) is)) h;
   two = λ old between new first second h k. spliced_on (text_and_layout old) (text_and_layout between) (text_and_layout new) first second h k;
-  one = λ document splice typed now fits whole. (text_and_layout (after_edit document splice typed now), cut document splice typed now fits, refl);
+  one = λ document splice typed now sound fits whole. (text_and_layout (after_edit document splice typed now), cut document splice typed now fits, refl);
+  forgotten = λ old new same none. ap (λ (s : Visible). s.0) same;
 }
 
 -- ---- calls

@@ -49,7 +49,7 @@ impl RangeHistory {
     }
 
     /// Forgets all ranges.
-    pub(crate) fn clear(&mut self)
+    pub(crate) fn forget(&mut self)
         ensures { past_of self.new ≡ no_past_ranges (past_of self.old).on }
     {
         self.before.clear();

@@ -61,7 +61,7 @@ impl Document {
         self.cursor = cursor;
         self.anchor = unless_empty(anchor, cursor);
         self.ranges = ranges;
-        self.range_history.clear();
+        self.range_history.forget();
     }
 
     /// Drops all atomic ranges, and those that are remembered; all else stays.
@@ -69,7 +69,7 @@ impl Document {
         ensures { self.new ≡ ranges_forgotten self.old }
     {
         self.ranges.clear();
-        self.range_history.clear();
+        self.range_history.forget();
     }
 
     /// Moves a cursor strictly inside an atomic range to its start for Backward, to its end for

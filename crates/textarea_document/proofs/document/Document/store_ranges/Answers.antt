@@ -1,6 +1,8 @@
 use Rattle.std.proofs.Common.{sym, subst}
-use Rattle.textarea_document.specs.Prelude.{IfSome, lines, IsPlace, AreValid, unless_empty, DocumentState}
+use Rattle.textarea_document.specs.RangeHistory.{past_of}
+use Rattle.textarea_document.specs.Prelude.{ArePastRanges, texts_before, IfSome, lines, IsPlace, AreValid, unless_empty, DocumentState}
 use Rattle.textarea_document.proofs.Ranges.{apart_slice, anchor_place}
+use Rattle.textarea_document.proofs.Sounds.{none_past}
 use Rattle.textarea_document.proofs.document.Document.store_ranges.Goals as goal
 
 pub invariant_of-self : goal.invariant_of-self
@@ -22,6 +24,7 @@ invariant_of-self c =
       bounded = old.bounded;
       marks = old.marks;
       whole = old.whole;
+      past = subst (ArePastRanges (texts_before text c.self.inside.history.log.done c.self.inside.history.log.undone)) (sym c.forget.ensures) (none_past text c.self.inside.history.log.done c.self.inside.history.log.undone (past_of c.self.inside.range_history).on);
     }
 
 pub move_out-cursor-requires : goal.move_out-cursor-requires
