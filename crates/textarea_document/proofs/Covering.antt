@@ -13,14 +13,14 @@ use Rattle.textarea_document.proofs.Sounds.{inside_redone, inside_times, inside_
 
 -- ---- elements of a list that a function gives
 
-found_in : {X Y : Type 0} (f : X → Y) (xs : List X) (y : Y) → Contains (map f xs) y → (x : X) × Contains xs x × (f x ≡ y)
+pub found_in : {X Y : Type 0} (f : X → Y) (xs : List X) (y : Y) → Contains (map f xs) y → (x : X) × Contains xs x × (f x ≡ y)
 found_in f [] y h = absurd (omega (arith, h.1))
 found_in f (x ∷ xs) y (zero, within, is) = (x, (zero, omega arith, refl), is)
 found_in f (x ∷ xs) y (suc k, within, is) =
     let later = found_in f xs y (k, omega arith, is) in
     (later.0, (suc later.1.0, suc-le-suc later.1.1, later.1.2), later.2)
 
-map_has : {X Y : Type 0} (f : X → Y) (xs : List X) (x : X) → Contains xs x → Contains (map f xs) (f x)
+pub map_has : {X Y : Type 0} (f : X → Y) (xs : List X) (x : X) → Contains xs x → Contains (map f xs) (f x)
 map_has f [] x h = absurd (omega (arith, h.1))
 map_has f (first ∷ xs) x (zero, within, is) = (zero, omega arith, ap f is)
 map_has f (first ∷ xs) x (suc k, within, is) =

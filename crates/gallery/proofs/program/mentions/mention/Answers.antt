@@ -4,7 +4,6 @@ use Rattle.std.proofs.lemmas.Bool.{and_parts, cond-false, not-false, not-true}
 use Rattle.textarea_data.specs.declared.range.AtomicRange.{AtomicRange}
 use Rattle.textarea_calls.specs.declared.call.Call.TheVariants as call
 use Rattle.tui_textarea.specs.Calls.{result_of_call}
-use Rattle.tui_textarea.specs.CallSplices.{splices_of}
 use Rattle.textarea_text.specs.Fragment.{fragment_symbols}
 use Rattle.textarea_text.specs.Splice.{CanApply, Splice}
 use Rattle.textarea_text.specs.Text.{Symbol}
@@ -14,39 +13,35 @@ use Rattle.tui_textarea.specs.Ranges.{ranges_accepted}
 use Rattle.tui_textarea.specs.Splices.{str_splices}
 use Rattle.gallery.specs.Mentions.{AreWhole}
 use Rattle.tui_textarea.proofs.Spaced.{admitted_characters}
-use Rattle.gallery.proofs.Tokens.{covers_mention, name_symbols, whole_if_set, whole_out_of_memory, whole_over, whole_with}
+use Rattle.gallery.proofs.Tokens.{covers_mention, name_symbols, whole_if_set, whole_over, whole_with}
 use Rattle.gallery.proofs.program.mentions.mention.Goals as goal
 
 pub returns-in_err-insert_str : goal.returns-in_err-insert_str
 returns-in_err-insert_str c whole =
     let old = c.args.area.now in
     let new = c.insert_str.new.self in
-    let sound = c.is_sound.ensures in
-    whole_out_of_memory old new sound (c.ranges_follow_each_call.ensures.out_of_memory old new (call.InsertStr c.args.name) sound c.in_err-insert_str.ensures.err) whole
+    whole_over old new (c.ranges_cover_no_more.ensures.out_of_memory old new (call.InsertStr c.args.name) c.is_sound.ensures c.in_err-insert_str.ensures.err) whole
 
 pub returns-then-not-inserted : goal.returns-then-not-inserted
 returns-then-not-inserted c whole =
     let old = c.args.area.now in
     let made = call.InsertStr c.args.name in
-    let sound = c.is_sound.ensures in
-    whole_over old c.insert_str.new.self (splices_of old made) sound
-    (c.ranges_follow_each_call.ensures.made old c.insert_str.new.self made (result_of_call old made) sound refl c.in_ok-insert_str.ensures.ok).0 whole
+    whole_over old c.insert_str.new.self
+    (c.ranges_cover_no_more.ensures.made old c.insert_str.new.self made (result_of_call old made) c.is_sound.ensures (λ sets. sets) refl c.in_ok-insert_str.ensures.ok) whole
 
 pub returns-in_err-ranges : goal.returns-in_err-ranges
 returns-in_err-ranges c whole =
     let old = c.args.area.now in
     let made = call.InsertStr c.args.name in
-    let sound = c.is_sound.ensures in
-    whole_over old c.insert_str.new.self (splices_of old made) sound
-    (c.ranges_follow_each_call.ensures.made old c.insert_str.new.self made (result_of_call old made) sound refl c.in_ok-insert_str.ensures.ok).0 whole
+    whole_over old c.insert_str.new.self
+    (c.ranges_cover_no_more.ensures.made old c.insert_str.new.self made (result_of_call old made) c.is_sound.ensures (λ sets. sets) refl c.in_ok-insert_str.ensures.ok) whole
 
 pub returns-in_err-push : goal.returns-in_err-push
 returns-in_err-push c whole =
     let old = c.args.area.now in
     let made = call.InsertStr c.args.name in
-    let sound = c.is_sound.ensures in
-    whole_over old c.insert_str.new.self (splices_of old made) sound
-    (c.ranges_follow_each_call.ensures.made old c.insert_str.new.self made (result_of_call old made) sound refl c.in_ok-insert_str.ensures.ok).0 whole
+    whole_over old c.insert_str.new.self
+    (c.ranges_cover_no_more.ensures.made old c.insert_str.new.self made (result_of_call old made) c.is_sound.ensures (λ sets. sets) refl c.in_ok-insert_str.ensures.ok) whole
 
 pub returns : goal.returns
 returns c whole =
@@ -55,7 +50,7 @@ returns c whole =
     let made = call.InsertStr c.args.name in
     let sound = c.is_sound.ensures in
     let mid_whole =
-    whole_over old mid (splices_of old made) sound (c.ranges_follow_each_call.ensures.made old mid made (result_of_call old made) sound refl c.in_ok-insert_str.ensures.ok).0 whole in
+    whole_over old mid (c.ranges_cover_no_more.ensures.made old mid made (result_of_call old made) sound (λ sets. sets) refl c.in_ok-insert_str.ensures.ok) whole in
     let symbols = fragment_symbols (chars c.args.name.now) in
     let inserts : (is_editable old && inserts_text old symbols) ≡ true = sym c.in_ok-insert_str.ensures.inserted ∙ not-false c.in_ok-insert_str.inserted c.if-not-inserted.false in
     let editable : old.settings.read_only ≡ false = not-true old.settings.read_only (and_parts (is_editable old) (inserts_text old symbols) inserts).0 in
