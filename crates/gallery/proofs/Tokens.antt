@@ -129,7 +129,7 @@ whole_with state range whole named characters stored =
     let Named = λ (other : AtomicRange). Contains names (cover other) in
     let each : All Named ranges =
     λ k d within. whole (cover (get_or ranges k d))
-        (Contains-append_left (covered_in text ranges) (covered_past state.document) (cover (get_or ranges k d)) (map_has cover ranges (get_or ranges k d) (Contains-get_or ranges k d within))) in
+    (Contains-append_left (covered_in text ranges) (covered_past state.document) (cover (get_or ranges k d)) (map_has cover ranges (get_or ranges k d) (Contains-get_or ranges k d within))) in
     let all : All Named (in_order (ranges ++ range ∷ [])) = All-from_recursion Named _ (each-in_order Named _ (recursion_from_All Named _ (All-push Named ranges range each named))) in
     let here : Contains (map cover (in_order (ranges ++ range ∷ []))) characters = subst (λ (l : List (List ℕ)). Contains l characters) (append-nil (map cover (in_order (ranges ++ range ∷ [])))) stored in
     let found = found_in cover (in_order (ranges ++ range ∷ [])) characters here in

@@ -19,5 +19,6 @@ pub mod StepLaw
 pub mod DocumentWraps
 pub mod RangesOverSplices
 pub mod Covering
+mod GivenBack
 pub mod Steps
 pub mod RowLemmas

@@ -120,8 +120,8 @@ pub off_after : (past : PastRanges) (kept : Option (List AtomicRange)) (ranges :
 off_after past None ranges log splice typed now undone done off is = off
 off_after past (Some before) ranges log splice typed now undone done off is =
     λ no.
-        let never : None ≡ Some before = ap (λ (on : Bool). cond on (cond (joins log splice typed now) None (Some ranges)) None) (sym no) ∙ is in
-        absurd cc
+    let never : None ≡ Some before = ap (λ (on : Bool). cond on (cond (joins log splice typed now) None (Some ranges)) None) (sym no) ∙ is in
+    absurd cc
 
 module _ (Has : List Symbol → List AtomicRange → Type 0) where
   -- the lists after an edit of this text that leaves this log have the property

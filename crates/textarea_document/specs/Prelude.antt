@@ -49,7 +49,7 @@ pub use Rattle.textarea_document.specs.Edits.{removed_symbols}
 unfoldable pub use Rattle.textarea_document.specs.Edits.{between_removed, removed_before, removed_after}
 pub use Rattle.textarea_document.specs.RangesOverSplices.{AllStayOrAreDropped, AllStemFrom, SplitNoRange, RangesFollowPast, RangesFollowSplices, RangesStayWhole, IsDroppedBy, StemsFrom, carried_range, ranges_over}
 pub use Rattle.textarea_document.specs.Covered.{CoversNoMore}
-pub use Rattle.textarea_document.specs.DocumentLaw.{RestoresAll, RestoresDocument, ListsFit}
+pub use Rattle.textarea_document.specs.DocumentLaw.{RemembersBefore, RestoresAll, RestoresDocument, ListsFit, ranges_before_group}
 pub use Rattle.textarea_document.specs.Outcomes.{after_change, after_edit, after_move, after_redo, after_redo_by, edit_redone, edit_undone, past_ranges_after, run_ended, unanchored, after_undo, after_undo_by}
 pub use Rattle.textarea_document.specs.Ranges.{SplitsNoRange, SplitsNoRangeBy, accepted, anchor_out, anchored, with_ranges, normalized, range_removed, ranges_forgotten, unless_empty}
 pub use Rattle.textarea_document.specs.DocumentRows.{text_and_layout, with_inner_width, with_layout_settings}

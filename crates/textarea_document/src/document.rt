@@ -212,9 +212,9 @@ impl Document {
         ensures err { OnErr result (self.new ≡ self.old) }
     {
         self.history.reserve()?;
-        let kept =
-            self.range_history
-                .prepare(&self.ranges, &self.history, &edit, typed, now)?;
+        let kept = self
+            .range_history
+            .prepare(&self.ranges, &self.history, &edit, typed, now)?;
         let cursor = make_change(
             &mut self.text_layout,
             &mut self.ranges,

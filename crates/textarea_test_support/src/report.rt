@@ -49,7 +49,11 @@ fn tell(differences: &mut Differences, area: &TextArea<'_>) -> Result<(), AllocE
     differences.flag(area.undo_ranges(), "undo_ranges")?;
     differences.flag(area.read_only(), "read_only")?;
     differences.flag(area.single_line(), "single_line")?;
-    differences.number(area.max_chars().unwrap_or(usize::MAX), usize::MAX, "max_chars")?;
+    differences.number(
+        area.max_chars().unwrap_or(usize::MAX),
+        usize::MAX,
+        "max_chars",
+    )?;
     differences.number(area.max_histories(), 50, "max_histories")?;
     differences.mode(area.wrap_mode())?;
     differences.style(area.line_number_style(), "line_number_style")?;
