@@ -224,8 +224,7 @@ impl Document {
         self.cursor = cursor;
         let undone = self.history.undone_len();
         self.history.put(edit, typed, now);
-        let done = self.history.done_len();
-        self.range_history.remember(kept, undone, done);
+        self.range_history.remember(kept, undone, self.history.done_len());
         self.anchor = None;
         Ok(())
     }

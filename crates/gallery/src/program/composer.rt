@@ -7,8 +7,7 @@
 //! - An atomic range makes characters a token: the cursor jumps over it, and a deletion takes it
 //!   whole. Ranges move with the text.
 //! - After any inputs each token covers a whole name, never a part of one: this is proved.
-//! - Undo brings a deleted mention back with its token, as long as no other was inserted since:
-//!   `set_undo_ranges` is on, and setting ranges forgets those from before.
+//! - By `set_undo_ranges` an undo brings a deleted mention back as a token, if none was added since.
 //! - Custom highlights don't move with the text, so `draw` sets them again from the ranges. They
 //!   are in bytes, ranges in characters.
 //!

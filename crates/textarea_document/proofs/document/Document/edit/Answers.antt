@@ -17,14 +17,14 @@ remembered c =
     let past = past_of inside.range_history in
     let kept = ranges_to_remember past inside.ranges.items inside.history.log splice c.args.typed now in
     let undone = c.undone_len-undone.result in
-    let done = c.done_len-done.result in
+    let done = c.done_len.result in
     let log_is = c.reserve.ensures.same in
     c.remember.ensures
     ∙ ap (λ (p : PastRanges). with_newest p (ranges_of c.in_ok-kept.kept) undone done) c.prepare.ensures.same
     ∙ ap (λ (k : Option (List AtomicRange)). with_newest past k undone done) (c.in_ok-kept.ensures.kept ∙ ap (λ (l : Log). ranges_to_remember past inside.ranges.items l splice c.args.typed now) log_is)
     ∙ ap (λ (n : ℕ). with_newest past kept n done) (c.undone_len-undone.ensures ∙ ap (λ (l : Log). length l.undone) log_is)
     ∙ ap (λ (n : ℕ). with_newest past kept (length inside.history.log.undone) n)
-    (c.done_len-done.ensures ∙ ap (λ (l : Log). length l.done) (c.put.ensures ∙ ap (λ (l : Log). recorded l splice c.args.typed now) log_is))
+    (c.done_len.ensures ∙ ap (λ (l : Log). length l.done) (c.put.ensures ∙ ap (λ (l : Log). recorded l splice c.args.typed now) log_is))
 
 -- the resulting document is the one after the edit
 left : (c : After-remember) →
