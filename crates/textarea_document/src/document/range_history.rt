@@ -96,7 +96,7 @@ impl RangeHistory {
     {
         if let Some(ranges) = kept {
             drop_newest(&mut self.before, undone);
-            let _ = self.before.push_front(ranges);
+            self.before.push_front_reserved(ranges);
             self.before.truncate(done);
         }
     }

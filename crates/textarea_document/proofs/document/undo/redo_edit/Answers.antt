@@ -40,6 +40,6 @@ returns-clause-ok c =
     let is = c.in_ok-after.ensures in
     changed_is text_layout c.make_change_from.new.text_layout c.args.cursor.now c.in_ok-after.after c.args.anchor.now (ranges_or (ranges_before_next past log) ranges) c.make_change_from.new.ranges.items log
     c.step_forward.new.self.log (redone_log log splice) changes (changes_of c.make_change_from.new.changes) past _ splice c.change.ensures is.text_layout is.cursor
-    (is.ranges ∙ ap (λ (before : Option (List AtomicRange)). moved_ranges (ranges_or before ranges) c.change.result.entry) c.in_ok-past.ensures)
+    (is.ranges ∙ ap (λ (before : Option (List AtomicRange)). moved_ranges (ranges_or before ranges) c.change.result) c.in_ok-past.ensures)
     (c.step_forward.ensures splice c.in-Some.ensures.edit) is.changes
     ∙ sym (ap (λ (found : Option Splice). after_redo_by found document) c.in-Some.ensures.edit)
