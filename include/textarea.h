@@ -1051,19 +1051,19 @@ uint32_t ta_indent(ta_handle_t *handle, uint8_t *out, size_t out_len, size_t *ne
  * typed does nothing if it doesn't fit, and an inserted text is cut at the end of the last of its
  * grapheme clusters that fits. `ta_duplicate_line`, `ta_indent_lines` and `ta_replace_all` do
  * nothing unless all that they insert fits. Undo, redo and `ta_set_lines` are never cut. There is
- * none at first.
+ * no such number at first, and after `ta_clear_max_chars`.
  *
  * Statuses: ok, empty handle. */
 uint32_t ta_set_max_chars(ta_handle_t *handle, size_t maximum);
 
-/** Sets no greatest number of characters.
+/** Lets the text have any number of characters, as at first.
  *
  * Statuses: ok, empty handle. */
 uint32_t ta_clear_max_chars(ta_handle_t *handle);
 
 /** Returns the greatest number of characters of the text.
  *
- * Statuses: ok, false (there is none), empty handle. */
+ * Statuses: ok, false (there is none: any number fits), empty handle. */
 uint32_t ta_max_chars(ta_handle_t *handle, size_t *maximum);
 
 /* Wrapping, line numbers, alignment and measuring. */

@@ -2,7 +2,7 @@
  *
  *     replay < script
  *
- * The commands are those of script_calls.h, insert_char of ASCII, insert_str, move,
+ * The commands are those of script_calls.h, insert_char of ASCII, insert_str, move, set_max_chars,
  * set_search_pattern, set_search_text, replace_match and replace_all. Texts have no escape \u{..}. */
 #include "check.h"
 
@@ -62,6 +62,8 @@ static uint32_t made_otherwise(ta_handle_t *area, const char *name, char *words)
         while (number < 14 && strcmp(words, moves[number]) != 0) number++;
         return ta_move_cursor(area, number);
     }
+    if (strcmp(name, "set_max_chars") == 0)
+        return strcmp(words, "None") ? ta_set_max_chars(area, strtoul(words, NULL, 10)) : ta_clear_max_chars(area);
     if (strcmp(name, "set_search_text") == 0) {
         char *second = strchr(words, ' ') + 1, *text = strchr(second, ' ');
         char none[1] = "";

@@ -35,6 +35,11 @@ def search_text(r):
     return f"set_search_text {pick(['true', 'false'])} {pick(['true', 'false'])} {pick(SEARCH_TEXTS)}"
 
 
+def max_chars(r):
+    """A command that sets the greatest number of characters."""
+    return f"set_max_chars {r.choice(['None', 'None', '0', '3', '12'])}"
+
+
 def command(r):
     """A random command."""
     pick, small = r.choice, lambda: r.randrange(8)
@@ -73,7 +78,7 @@ def command(r):
         lambda: f"hit {r.randrange(30)} {r.randrange(12)}",
         lambda: f"set_wrap_mode {pick(['None', 'Word', 'Glyph', 'WordOrGlyph'])}",
         lambda: f"set_mask_char {pick(CHARS[:2] + ['•'])}",
-        lambda: f"set_max_chars {pick(['None', 'None', '3', '12'])}",
+        lambda: max_chars(r),
         lambda: f"line_numbers {pick(['true', 'false'])}",
         lambda: f"now {r.randrange(5000)}",
         lambda: f"set_change_log {pick(['Characters', 'Bytes', 'Utf16', 'Utf16', 'None'])}",
@@ -98,7 +103,8 @@ def plain_command(r):
         name = pick(list(WITH_ARGUMENTS))
         return f"{name} {pick(OWN_VALUES.get(name, VALUES[WITH_ARGUMENTS[name]]))}"
     text = pick([text for text in TEXTS if "u{" not in text])
-    return pick(["set_search_pattern " + pick(PATTERNS), search_text(r), "replace_match " + text, "replace_all " + text])
+    others = ["set_search_pattern " + pick(PATTERNS), search_text(r), max_chars(r)]
+    return pick([*others, "replace_match " + text, "replace_all " + text])
 
 
 def main():

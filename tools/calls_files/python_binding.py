@@ -36,7 +36,8 @@ def python_wrappers(table):
 
 
 def python_method(call):
-    given = "".join(f", {n}: {PYTHON[t]}{' = False' if t == 'bool' else ''}" for n, t in call.arguments)
+    default = {} if call.name.startswith("set_") else {"bool": " = False"}
+    given = "".join(f", {n}: {PYTHON[t]}{default.get(t, '')}" for n, t in call.arguments)
     words = ", ".join([f"lib.ta_{call.name}", *call.names()])
     made = f"self._{'edit' if call.edits else 'call'}({words})"
     return [

@@ -312,11 +312,11 @@ class TextArea(Calls):
 
     @property
     def max_chars(self) -> Optional[int]:
-        """The greatest number of characters of the text, a line break counted as one; `None` for any
-        number, as at first. Then what is typed does nothing if it doesn't fit, and an inserted text is
-        cut at the end of the last of its grapheme clusters that fits. `duplicate_line`, `indent_lines`
-        and `replace_all` do nothing unless all that they insert fits. Undo, redo and `set_lines` are
-        never cut."""
+        """The greatest number of characters of the text, a line break counted as one; `None` for
+        any number, as at first. Then what is typed does nothing if it doesn't fit, and an inserted
+        text is cut at the end of the last of its grapheme clusters that fits. `duplicate_line`,
+        `indent_lines` and `replace_all` do nothing unless all that they insert fits. Undo, redo and
+        `set_lines` are never cut."""
         found = self._numbers(ctypes.c_size_t, 1, lib.ta_max_chars)
         return found and found[0]
 

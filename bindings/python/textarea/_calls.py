@@ -167,7 +167,7 @@ class Calls(Core):
         """Drops all atomic ranges."""
         self._call(lib.ta_clear_atomic_ranges)
 
-    def set_single_line(self, single_line: bool = False) -> bool:
+    def set_single_line(self, single_line: bool) -> bool:
         """Sets whether the text is kept in a single line, and returns whether it could be set: a
         text of several lines can't be. Then a line break that is typed, and `duplicate_line`, do
         nothing, breaks of a text that is inserted or pasted become spaces, and `set_lines` of

@@ -188,10 +188,44 @@ fn read_only() {
     assert!(!area.insert_str("x") && !area.delete_next_char() && !area.undo());
     area.select_all();
     assert!(area.read_only() && area.cut());
-    assert_eq!((area.yank_text().as_str(), area.lines()), ("one", &["one"][..]));
+    assert_eq!(area.yank_text(), "one");
+    assert_eq!(area.lines(), ["one"]);
     area.set_read_only(false);
     area.insert_char('x');
     assert_eq!(area.lines(), ["onex"]);
+}
+
+#[test]
+fn single_line() {
+    let mut area = TextArea::from(["one", "two"]);
+    assert!(!area.single_line() && !area.set_single_line(true) && !area.single_line());
+    area.set_lines(vec!["one".into()], (0, 0));
+    assert!(area.set_single_line(true) && area.single_line());
+    area.insert_newline();
+    area.insert_char('\r');
+    assert!(area.insert_pasted("a\r\nb"));
+    assert_eq!(area.lines(), ["a bone"]);
+    assert!(area.set_single_line(false));
+    area.insert_newline();
+    assert_eq!(area.lines(), ["a b", "one"]);
+}
+
+#[test]
+fn max_chars() {
+    let mut area = TextArea::from(["one"]);
+    assert_eq!(area.max_chars(), None);
+    area.set_max_chars(Some(6));
+    assert_eq!(area.max_chars(), Some(6));
+    assert!(area.insert_str("a\u{301}e\u{301}"));
+    area.insert_str("xy");
+    area.insert_char('y');
+    assert!(!area.insert_tab());
+    assert_eq!(area.lines(), ["a\u{301}xone"]);
+    area.set_max_chars(None);
+    area.insert_char('y');
+    assert_eq!(area.lines(), ["a\u{301}xyone"]);
+    area.set_max_chars(Some(0));
+    assert_eq!(area.max_chars(), Some(0));
 }
 
 #[test]

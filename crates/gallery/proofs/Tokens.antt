@@ -1,7 +1,8 @@
 -- Mentions stay whole over inputs, and a new one covers its name.
-use Rattle.std.proofs.Common.{◌≡◌, ℕ, ◌+◌, ◌-◌, ◌<◌, ◌≤◌, ◌⊎◌, inl, inr, Bool, true, false, cond, Bor, IsAscii, List, [], ◌∷◌, ◌++◌, length, map, get_or, take, drop, refl, sym, ap, ◌∙◌, subst, arith, rules}
+use Rattle.std.proofs.Common.{◌≡◌, ℕ, ◌+◌, ◌-◌, ◌<◌, ◌≤◌, ◌⊎◌, ◌&&◌, inl, inr, Bool, true, false, not, Option, None, Some, is_some, cond, Bor, IsAscii, List, [], ◌∷◌, ◌++◌, length, map, get_or, take, drop, refl, sym, ap, ◌∙◌, subst, arith, rules}
 use Rattle.std.specs.Prelude.{All, Contains, Result, Ok, Err, IfOk, OnOk, OnErr}
 use Rattle.std.specs.Str.{chars}
+use Rattle.std.proofs.lemmas.Bool.{and_parts, not-true}
 use Rattle.std.proofs.lemmas.Str.{chars-IsAscii}
 use Rattle.std.proofs.lemmas.List.{append-nil}
 use Rattle.std.proofs.lemmas.List.Elements.{All-contains, All-from_recursion, recursion_from_All, All-push, Contains-append_left, Contains-get_or}
@@ -27,12 +28,15 @@ use Rattle.textarea_document.proofs.Covering.{found_in, map_has}
 use Rattle.tui_textarea.specs.Drawing.{IsRendered}
 use Rattle.tui_textarea.specs.DrawnFrame.{WidgetState}
 use Rattle.tui_textarea.specs.Edits.{str_inserted}
+use Rattle.tui_textarea.specs.Fitting.{fitting_beside}
 use Rattle.tui_textarea.specs.Grouping.{call_begun}
+use Rattle.tui_textarea.specs.Guards.{admitted, admitted_over_selection}
 use Rattle.tui_textarea.specs.Ranges.{ranges_accepted}
 use Rattle.tui_textarea.specs.Selection.{unselected}
 use Rattle.tui_textarea.specs.Splices.{str_splices}
 use Rattle.tui_textarea.specs.State.{State}
 use Rattle.tui_textarea.proofs.Grouping.{str_beside}
+use Rattle.tui_textarea.proofs.Spaced.{admitted_characters}
 use Rattle.gallery.specs.Mentions.{AreWhole, names}
 
 -- a reference to a value
@@ -63,6 +67,28 @@ plain_name name named =
 -- its symbols are its characters
 pub name_symbols : (name : List ℕ) → Contains names name → fragment_symbols (chars name) ≡ characters name
 name_symbols name named = let plain = plain_name name named in ap fragment_symbols plain.ascii ∙ plain.plain
+
+-- the text area can be edited, and has no greatest number of characters
+pub record TakesWholeNames (state : State) : Type 0 where
+  pub editable : state.settings.read_only ≡ false
+  pub unbounded : state.settings.max_chars ≡ None
+
+none_of : {A : Type 0} (value : Option A) → not (is_some value) ≡ true → value ≡ None
+none_of None none = refl
+none_of (Some x) none = absurd cc
+
+pub takes_whole_names : (state : State) → (not state.settings.read_only && not (is_some state.settings.max_chars)) ≡ true → TakesWholeNames state
+takes_whole_names state takes =
+    let parts = and_parts (not state.settings.read_only) (not (is_some state.settings.max_chars)) takes in
+    record { editable = not-true state.settings.read_only parts.0; unbounded = none_of state.settings.max_chars parts.1 }
+
+-- there a name is inserted whole
+pub name_admitted : (state : State) (name : List ℕ) → Contains names name → TakesWholeNames state →
+    admitted_over_selection state (fragment_symbols (chars name)) ≡ fragment_symbols (chars name)
+name_admitted state name named takes =
+    let symbols = fragment_symbols (chars name) in
+    ap (λ (most : Option ℕ). fitting_beside most (length (unselected state).document.text) (admitted state symbols)) takes.unbounded
+    ∙ subst (λ (some : List Symbol). admitted state some ≡ some) (sym (name_symbols name named)) (admitted_characters state name)
 
 fits_by_case : (selects : Bool) (document gone : DocumentState) (removal : Splice) (symbols : List Symbol) → gone.text ≡ applied document.text removal →
     CanApply document.text (cond selects (removal ∷ []) [] ++ splice_of_step (cond selects gone document) (Insert symbols) ∷ []) →

@@ -93,8 +93,10 @@ impl Program {
 
     // The other programs take no pasted text.
     fn paste(&mut self, text: &str) -> Result<bool> {
-        if let Program::Prompt(prompt) = self {
-            prompt.paste(text)?;
+        match self {
+            Program::Prompt(prompt) => prompt.paste(text)?,
+            Program::Form(form) => form.paste(text)?,
+            _ => {}
         }
         Ok(true)
     }

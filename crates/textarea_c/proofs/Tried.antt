@@ -50,15 +50,15 @@ inserted (Ok value) status area new a ok err said refused = ((λ _. ap (with_are
 inserted (Err e) status area new a ok err said refused = ((λ none. absurd (omega (arith, none, refused))), (λ _. (refused, err, refl)))
 
 -- an insertion that returns whether there was something to insert
-pub tried_insertion : {E : Type 0} (answer : Result Bool E) (status : ℕ) (found : Bool) (area new : State) (a : Editor)
-    → IfOk answer (λ inserted. inserted ≡ found) → OnOk answer (new ≡ area) → OnErr answer (IsInsertOutOfMemory a.area new) → (found ≡ false → IsOk answer)
+pub tried_insertion : {E : Type 0} (answer : Result Bool E) (status : ℕ) (found does : Bool) (area new : State) (a : Editor)
+    → IfOk answer (λ inserted. inserted ≡ found) → OnOk answer (new ≡ area) → OnErr answer (IsInsertOutOfMemory a.area new) → (does ≡ false → IsOk answer)
     → IfOk answer (λ flag. status ≡ (if flag then 0 else 1)) → OnErr answer (status ≡ 2)
-    → TriesToInsert found found area status a (with_area a new)
-tried_insertion (Ok true) status found area new a made ok err nothing said refused =
+    → TriesToInsert found does area status a (with_area a new)
+tried_insertion (Ok true) status found does area new a made ok err nothing said refused =
     ((λ _. ap (with_area a) ok), (λ more. absurd (omega arith)), (λ _. sym made), (λ one. absurd (omega arith)), (λ none more. omega arith))
-tried_insertion (Ok false) status found area new a made ok err nothing said refused =
+tried_insertion (Ok false) status found does area new a made ok err nothing said refused =
     ((λ _. ap (with_area a) ok), (λ more. absurd (omega arith)), (λ none. absurd (omega arith)), (λ _. sym made), (λ none more. omega arith))
-tried_insertion (Err e) status found area new a made ok err nothing said refused = (
+tried_insertion (Err e) status found does area new a made ok err nothing said refused = (
   (λ less. absurd (omega arith)),
   (λ _. (refused, err, refl)),
   (λ none. absurd (omega arith)),

@@ -7,12 +7,13 @@ use Rattle.textarea_ranges.specs.Rejected.{AreRejected}
 use Rattle.textarea_ranges.specs.Valid.{AreValid}
 use Rattle.textarea_text.specs.Text.{lines}
 use Rattle.textarea_calls.specs.declared.call.Call.{Call}
+use Rattle.textarea_calls.specs.declared.call.Call.TheVariants as call
 use Rattle.textarea_screen.specs.declared.screen.style.Style.{Style}
 use Rattle.tui_textarea.specs.CallResults as reported
 use Rattle.tui_textarea.specs.CallResults.{CallResult}
 use Rattle.tui_textarea.specs.Calls.{NeedsMemory, result_of_call, state_after}
 use Rattle.tui_textarea.specs.Edits.{char_inserted}
-use Rattle.tui_textarea.specs.Guards.{bars_character}
+use Rattle.tui_textarea.specs.Guards.{bars_character, is_barred}
 use Rattle.tui_textarea.specs.Input.{flag_of}
 use Rattle.tui_textarea.specs.Patterns.{IsNewPattern, MayRejectPattern}
 use Rattle.tui_textarea.specs.Ranges.{ranges_accepted}
@@ -155,6 +156,10 @@ abbrev pub Replaces : Bool → State → ℕ → Editor → Editor → Type 0
 Replaces found area status a b =
     (status < 2 → b ≡ with_area a area) × (2 ≤ status → (status ≡ 2) × (b ≡ a))
     × (status ≡ 0 → found ≡ true) × (status ≡ 1 → found ≡ false)
+
+-- the replacement of each match by this text is left out
+abbrev pub bars_replacement : State → List ℕ → Bool
+bars_replacement state text = is_barred state (call.ReplaceAll (record { ref_ptr = (0, 0); now = text }))
 
 -- setting a pattern: a rejected one leaves the text area, and its error is stored; the empty and the
 -- present one are always set

@@ -34,7 +34,7 @@ plain_help_key _ = Other
 abbrev pub help_key : Input → HelpKey
 help_key input = if quits input then Quit else plain_help_key input.key
 
--- whether a scroll down goes on past the first row from which on the help's lines fill the window, of this number of lines
+-- whether a scroll goes down so far that the window would have blank rows after the last of this number of lines
 abbrev pub passes_last_rows : ViewportState → ViewportState → ℕ → Bool
 passes_last_rows old new count = nat_lt old.row new.row && nat_lt (count - old.height) new.row
 

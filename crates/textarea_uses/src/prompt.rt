@@ -1,6 +1,6 @@
 //! A prompt. Its user can rely on it that what Enter sends is exactly what was typed since the last
 //! Enter.
-ghost use Rattle.std.specs.Prelude.{◌≡◌, ◌++◌, [], IfOk, List, OnErr, OnOk, Some, ℕ};
+ghost use Rattle.std.specs.Prelude.{◌≡◌, ◌++◌, [], IfOk, List, None, OnErr, OnOk, Some, ℕ};
 ghost use Rattle.std.specs.Option.{option_map, option_to_list};
 ghost use Rattle.textarea_text.specs.Text.{characters_of, lines_of};
 ghost use Rattle.textarea_uses.specs.Prompt.{sent_after, sent_by, typed_after};
@@ -19,7 +19,7 @@ pub struct LinePrompt {
 impl LinePrompt {
     /// Returns a prompt in which nothing is typed yet.
     pub fn new(alloc: Global) -> Result<LinePrompt, AllocError>
-        ensures { IfOk result (λ prompt. IsTypedLine prompt.area []) }
+        ensures { IfOk result (λ prompt. IsTypedLine prompt.area None []) }
     {
         let area = TextArea::try_default(alloc)?;
         Ok(LinePrompt { area })
@@ -27,11 +27,11 @@ impl LinePrompt {
 
     /// Takes a key. A character is typed, Backspace removes the last one, and Enter sends the text.
     pub fn take(&mut self, key: Key) -> Result<Option<String>, AllocError>
-        ensures ok { (typed : List ℕ) → IsTypedLine self.old.area typed →
+        ensures ok { (typed : List ℕ) → IsTypedLine self.old.area None typed →
             IfOk result (λ text. (option_map characters_of text ≡ sent_by key typed)
-            × IsTypedLine self.new.area (typed_after key typed)) }
-        ensures err { (typed : List ℕ) → IsTypedLine self.old.area typed →
-            OnErr result (IsTypedLine self.new.area typed) }
+            × IsTypedLine self.new.area None (typed_after key typed)) }
+        ensures err { (typed : List ℕ) → IsTypedLine self.old.area None typed →
+            OnErr result (IsTypedLine self.new.area None typed) }
     {
         typed_line_stays();
         match key {
@@ -50,9 +50,9 @@ impl LinePrompt {
 
     // Returns the text, and empties the prompt.
     fn send(&mut self) -> Result<Option<String>, AllocError>
-        ensures ok { (typed : List ℕ) → IsTypedLine self.old.area typed →
+        ensures ok { (typed : List ℕ) → IsTypedLine self.old.area None typed →
             IfOk result (λ text. (option_map characters_of text ≡ Some typed)
-            × IsTypedLine self.new.area []) }
+            × IsTypedLine self.new.area None []) }
         ensures err { OnErr result (self.new ≡ self.old) }
     {
         typed_line_stays();
@@ -68,7 +68,7 @@ pub fn send_all(
     keys: &[Key],
     texts: &mut Vec<String>,
 ) -> Result<(), AllocError>
-    ensures { IsTypedLine prompt.old.area [] → OnOk result
+    ensures { IsTypedLine prompt.old.area None [] → OnOk result
         (lines_of texts.new.items ≡ sent_after keys.now [] (lines_of texts.old.items)) }
 {
     for key in keys {

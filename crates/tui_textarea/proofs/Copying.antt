@@ -1,5 +1,5 @@
 -- A copy and a paste after it.
-use Rattle.std.proofs.Common.{◌≡◌, ℕ, ◌<◌, ◌==◌, ◌&&◌, ◌||◌, nat_lt, cond, map, true, false, List, [], ◌∷◌, length, Option, None, Some, ap, sym, refl, subst, ◌∙◌, arith}
+use Rattle.std.proofs.Common.{◌≡◌, ℕ, ◌+◌, ◌<◌, ◌==◌, ◌&&◌, ◌||◌, nat_lt, cond, map, Bool, true, false, List, [], ◌∷◌, length, Option, None, Some, ap, sym, refl, subst, take-append-drop, ◌∙◌, arith}
 use Rattle.std.specs.Option.{IfSome, MatchOption}
 use Rattle.std.proofs.lemmas.Bool.Decides.{nat_tests}
 use Rattle.textarea_text.specs.Text.{Symbol}
@@ -11,13 +11,15 @@ use Rattle.textarea_document.specs.Selection.{is_selected, selected, selection_e
 use Rattle.tui_textarea.specs.State.{State, with_document}
 use Rattle.tui_textarea.specs.Edits.{symbols_or_none_inserted, str_inserted}
 use Rattle.tui_textarea.specs.Grouping.{call_begun, call_ended}
-use Rattle.tui_textarea.specs.Guards.{admitted, is_editable, spaced, unless_read_only}
-use Rattle.tui_textarea.specs.TextAreaLaw.{PastesCopy, copied_and_pasted}
+use Rattle.tui_textarea.specs.Fitting.{fitting_beside, is_allowed}
+use Rattle.tui_textarea.specs.Guards.{admitted, admitted_over_selection, is_editable, spaced, unless_read_only}
+use Rattle.tui_textarea.specs.TextAreaLaw.{PastesCopy, copied_and_pasted, copy_pasted}
 use Rattle.tui_textarea.specs.Selection.{selection_copied, selection_cancelled}
 use Rattle.std.proofs.Math.Bool.{and-false}
 use Rattle.std.proofs.lemmas.Bool.{cond-false, not-true}
 use Rattle.std.proofs.lemmas.List.{length-map}
 use Rattle.textarea_document.proofs.Betweens.{between_some}
+use Rattle.tui_textarea.proofs.Admitted.{all_fits}
 use Rattle.tui_textarea.proofs.Cases.{by_test}
 
 not_less : (n : ℕ) → nat_lt n n ≡ false
@@ -39,10 +41,10 @@ filled : (symbols : List Symbol) → 0 < length symbols → has_symbols symbols 
 filled [] h = absurd (omega (arith, h))
 filled (symbol ∷ symbols) h = refl
 
--- a symbol is inserted where there is one
-admitted-some : (state : State) (symbols : List Symbol) → 0 < length symbols → 0 < length (admitted state symbols)
-admitted-some state symbols some =
-    by_test (λ (s : List Symbol). 0 < length s) state.settings.single_line (map spaced symbols) symbols (λ single. omega (arith, some, length-map symbols spaced)) (λ several. some)
+-- a space takes the place of each break
+admitted-length : (state : State) (symbols : List Symbol) → length (admitted state symbols) ≡ length symbols
+admitted-length state symbols =
+    by_test (λ (s : List Symbol). length s ≡ length symbols) state.settings.single_line (map spaced symbols) symbols (λ single. length-map symbols spaced) (λ several. refl)
 
 pub pastes_copy : (state : State) → is_editable state ≡ true → is_selected state.document ≡ true
     → IsPlace state.document.text (selection_end state.document)
@@ -50,9 +52,14 @@ pub pastes_copy : (state : State) → is_editable state ≡ true → is_selected
     → PastesCopy state
 pastes_copy state editable e place ordered =
     record {
-      text = ap (λ (s : State). s.document.text) reached ∙ text_of (admitted state (selected state.document)) (admitted-some state (selected state.document) some);
-      cursor = ap (λ (s : State). s.document.cursor) reached ∙ cursor_of (admitted state (selected state.document)) (admitted-some state (selected state.document) some);
-      returned = ap (λ (s : State). is_editable s && has_symbols s.yank) copied_is ∙ ap (λ b. b && has_symbols (selected state.document)) editable ∙ filled (selected state.document) some;
+      text = ap (λ (s : State). s.document.text) reached ∙ text_of (copy_pasted state);
+      cursor = ap (λ (s : State). s.document.cursor) reached ∙ cursor_of (copy_pasted state);
+      returned =
+          ap (λ (s : State). is_editable s && has_symbols (admitted_over_selection s s.yank)) copied_is
+          ∙ ap (λ b. b && has_symbols (admitted_over_selection after after.yank)) editable ∙ ap has_symbols fits;
+      whole = λ room. all_fits state.settings.max_chars (length state.document.text) (admitted state (selected state.document))
+          (ap (λ (n : ℕ). is_allowed state.settings.max_chars (length state.document.text + n)) (admitted-length state (selected state.document)) ∙ room);
+      some = filled (admitted state (selected state.document)) (omega (arith, some, admitted-length state (selected state.document)));
     }
   where
     after : State
@@ -64,23 +71,32 @@ pastes_copy state editable e place ordered =
     begun : State
     begun = call_begun after
 
-    reached : copied_and_pasted state ≡ call_ended after (symbols_or_none_inserted begun (admitted state (selected state.document)))
+    -- the document without what is selected, if a text is
+    removed_if : DocumentState → Bool → DocumentState
+    removed_if document b = cond b (between_removed document (selection_start document) (selection_end document) state.time) document
+
+    -- nothing is selected after the copy
+    fits : admitted_over_selection after after.yank ≡ copy_pasted state
+    fits =
+        ap (λ (b : Bool). fitting_beside state.settings.max_chars (length (removed_if after.document b).text) (admitted state (selected state.document))) (none_selected state.document)
+
+    reached : copied_and_pasted state ≡ call_ended after (symbols_or_none_inserted begun (copy_pasted state))
     reached =
-        ap (λ (s : State). unless_read_only s (str_inserted s (admitted s s.yank))) copied_is
-        ∙ cond-false state.settings.read_only after (str_inserted after (admitted after after.yank)) (not-true state.settings.read_only editable)
-        ∙ ap (λ b. call_ended after (symbols_or_none_inserted (with_document begun (cond b (between_removed begun.document (selection_start begun.document) (selection_end begun.document) begun.time) begun.document)) (admitted after after.yank)))
-        (none_selected state.document)
+        ap (λ (s : State). unless_read_only s (str_inserted s (admitted_over_selection s s.yank))) copied_is
+        ∙ cond-false state.settings.read_only after (str_inserted after (admitted_over_selection after after.yank)) (not-true state.settings.read_only editable)
+        ∙ ap (λ b. call_ended after (symbols_or_none_inserted (with_document begun (removed_if begun.document b)) (admitted_over_selection after after.yank))) (none_selected state.document)
+        ∙ ap (λ (s : List Symbol). call_ended after (symbols_or_none_inserted begun s)) fits
 
     some : 0 < length (selected state.document)
     some = between_some state.document.text (selection_start state.document) (selection_end state.document) place ordered
 
-    text_of : (symbols : List Symbol) → 0 < length symbols → (call_ended after (symbols_or_none_inserted begun symbols)).document.text ≡ inserted state.document.text (insertion_place state.document) symbols
-    text_of [] h = absurd (omega (arith, h))
-    text_of (symbol ∷ symbols) h = refl
+    text_of : (symbols : List Symbol) → (call_ended after (symbols_or_none_inserted begun symbols)).document.text ≡ inserted state.document.text (insertion_place state.document) symbols
+    text_of [] = sym (take-append-drop (index_of state.document.text (insertion_place state.document)) state.document.text)
+    text_of (symbol ∷ symbols) = refl
 
-    cursor_of : (symbols : List Symbol) → 0 < length symbols → (call_ended after (symbols_or_none_inserted begun symbols)).document.cursor ≡ end (insertion_place state.document) symbols
-    cursor_of [] h = absurd (omega (arith, h))
-    cursor_of (symbol ∷ symbols) h = refl
+    cursor_of : (symbols : List Symbol) → (call_ended after (symbols_or_none_inserted begun symbols)).document.cursor ≡ end (insertion_place state.document) symbols
+    cursor_of [] = refl
+    cursor_of (symbol ∷ symbols) = refl
 
 -- the facts of the two ends of selected text, if they were found
 pub ends_known : (document : DocumentState) (found : Option (Place × Place)) → is_selected document ≡ true

@@ -1,5 +1,5 @@
 -- The edits of one call in a group: what the group changes, and what it doesn't.
-use Rattle.std.proofs.Common.{◌≡◌, ◌∙◌, ◌&&◌, ◌==◌, ℕ, Bool, true, false, cond, not, List, [], ◌∷◌, ◌++◌, Result, Ok, Err, ap, inl, inr, refl, replicate, subst, sym, ⊎_elim}
+use Rattle.std.proofs.Common.{◌≡◌, ◌∙◌, ◌&&◌, ◌==◌, ℕ, Bool, true, false, cond, not, List, [], ◌∷◌, ◌++◌, Result, Ok, Err, ap, inl, inr, length, refl, replicate, subst, sym, ⊎_elim}
 use Rattle.std.specs.Result.{OnErr, OnOk}
 use Rattle.std.proofs.Math.Bool.{and-false}
 use Rattle.textarea_history.specs.Groups.{is_open, opened}

@@ -9,6 +9,7 @@ mod Rects
 mod Rendering
 mod Widths
 mod Acting
+mod Admitted
 pub mod Ahead
 pub mod Copying
 mod Filled
@@ -45,6 +46,7 @@ mod Lifted
 mod Unedited
 mod ReadOnly
 mod Guarded
+pub mod Fitting
 mod Unselected
 mod CursorLine
 pub mod CallWraps

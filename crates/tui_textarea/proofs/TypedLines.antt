@@ -1,6 +1,7 @@
 -- A text of one line with the cursor after it, over the calls that type a character, remove the last
 -- one, and clear the text.
-use Rattle.std.proofs.Common.{◌≡◌, ◌∙◌, ℕ, zero, suc, ◌+◌, ◌-◌, ◌≤◌, ◌&&◌, ◌||◌, Bool, true, false, cond, List, [], ◌∷◌, ◌++◌, length, take, drop, Option, None, inl, inr, refl, subst, sym, ap, arith, take_all, ⊎_elim}
+use Rattle.std.proofs.Common.{◌≡◌, ◌∙◌, ℕ, zero, suc, ◌+◌, ◌-◌, ◌≤◌, ◌&&◌, ◌||◌, Bool, true, false, not, cond, List, [], ◌∷◌, ◌++◌, length, take, drop, Option, None, inl, inr, refl, subst, sym, ap, arith, take_all, ⊎_elim}
+use Rattle.std.proofs.Math.Bool.{or-false}
 use Rattle.std.proofs.lemmas.Bool.{cond-false}
 use Rattle.std.proofs.lemmas.Bool.Decides.{nat_tests}
 use Rattle.std.proofs.lemmas.List.{append-nil, drop_all, length-drop, length-take-le, length_push}
@@ -15,12 +16,13 @@ use Rattle.textarea_document.specs.Edits.{RemoveBefore, between_removed, has_sym
 use Rattle.textarea_document.specs.Outcomes.{unanchored}
 use Rattle.textarea_document.specs.Selection.{is_selected}
 use Rattle.tui_textarea.specs.Edits.{breaks_line, char_inserted, char_or_break_inserted, line_broken, typed_character_inserted}
+use Rattle.tui_textarea.specs.Fitting.{fits_for, has_no_room, is_allowed}
 use Rattle.tui_textarea.specs.Grouping.{call_begun, call_ended}
 use Rattle.tui_textarea.specs.Guards.{bars_character, unless_read_only}
 use Rattle.tui_textarea.specs.Removals.{symbol_before_removed, text_cleared, unselected_or, yanked}
 use Rattle.tui_textarea.specs.Selection.{IsInsertOutOfMemory, unselected}
 use Rattle.tui_textarea.specs.State.{State, with_document}
-use Rattle.tui_textarea.specs.TypedLine.{IsTypedLine}
+use Rattle.tui_textarea.specs.TypedLine.{IsTypedLine, with_character}
 use Rattle.tui_textarea.specs.declared.textarea.settings.Settings.{Settings}
 
 -- ---- characters
@@ -201,56 +203,77 @@ line_left state new typed h (inr gone) =
 
 -- ---- in a text area that can be edited
 
-line_of : (state : State) (typed : List ℕ) → IsTypedLine state typed → HasLine state typed
-line_of state typed h = record { text = h.text; cursor = h.cursor; anchor = h.anchor; ranges = h.ranges }
+line_of : (state : State) (maximum : Option ℕ) (typed : List ℕ) → IsTypedLine state maximum typed → HasLine state typed
+line_of state maximum typed h = record { text = h.text; cursor = h.cursor; anchor = h.anchor; ranges = h.ranges }
 
 -- the state has the line, and its settings are those of a text area that can be edited
-holds : (old new made : State) (typed more : List ℕ) → IsTypedLine old typed → new ≡ unless_read_only old made → made.settings ≡ old.settings
-    → (new ≡ made → HasLine new more) → IsTypedLine new more
-holds old new made typed more h is same k =
-    let made_is : new ≡ made = is ∙ cond-false old.settings.read_only old made h.editable in
-    let line = k made_is in
+made_holds : (old new made : State) (maximum : Option ℕ) (typed more : List ℕ) → IsTypedLine old maximum typed → new ≡ made → made.settings ≡ old.settings
+    → HasLine new more → IsTypedLine new maximum more
+made_holds old new made maximum typed more h is same line =
+    let settings : new.settings ≡ old.settings = ap (λ (s : State). s.settings) is ∙ same in
     record {
       text = line.text;
       cursor = line.cursor;
       anchor = line.anchor;
       ranges = line.ranges;
-      editable = ap (λ (s : State). s.settings.read_only) made_is ∙ ap (λ (s : Settings). s.read_only) same ∙ h.editable;
+      editable = ap (λ (s : Settings). s.read_only) settings ∙ h.editable;
+      most = ap (λ (s : Settings). s.max_chars) settings ∙ h.most;
     }
+
+holds : (old new made : State) (maximum : Option ℕ) (typed more : List ℕ) → IsTypedLine old maximum typed → new ≡ unless_read_only old made → made.settings ≡ old.settings
+    → (new ≡ made → HasLine new more) → IsTypedLine new maximum more
+holds old new made maximum typed more h is same k =
+    let made_is : new ≡ made = is ∙ cond-false old.settings.read_only old made h.editable in
+    made_holds old new made maximum typed more h made_is same (k made_is)
 
 -- whatever a test chooses has the settings
 either : (state : State) (b : Bool) (x y : State) → x.settings ≡ state.settings → y.settings ≡ state.settings → (cond b x y).settings ≡ state.settings
 either state true x y h k = h
 either state false x y h k = k
 
-pub character_typed : (state new : State) (typed : List ℕ) (c : ℕ) → IsTypedLine state typed → breaks_line c ≡ false → new ≡ cond (bars_character state c) state (char_inserted state c)
-    → IsTypedLine new (typed ++ c ∷ [])
-character_typed state new typed c h breaks is =
-    let left = unselected (call_begun state) in
-    holds state new (char_inserted state c) typed (typed ++ c ∷ []) h (is ∙ ap (λ (b : Bool). cond (b && state.settings.single_line || state.settings.read_only) state (char_inserted state c)) breaks) (either state (breaks_line c) (line_broken left) (typed_character_inserted left c) refl refl)
-    (λ made. line_typed state new typed c (line_of state typed h) breaks made)
+-- a character has no room exactly if the line has as many as it may
+barred_is : (state : State) (maximum : Option ℕ) (typed : List ℕ) (c : ℕ) → IsTypedLine state maximum typed → breaks_line c ≡ false
+    → bars_character state c ≡ not (is_allowed maximum (length typed + 1))
+barred_is state maximum typed c h breaks =
+    let line = line_of state maximum typed h in
+    let none : is_selected state.document ≡ false = ap is_selected (is_ending state typed line) ∙ none_selected state.document typed in
+    let count : length state.document.text - 0 + 1 ≡ length typed + 1 = omega (arith, ap length h.text, length-characters typed) in
+    let room : has_no_room state ≡ not (is_allowed maximum (length typed + 1)) =
+    ap (λ (b : Bool). not b && not (fits_for state 0 1)) none
+    ∙ ap (λ (m : Option ℕ). not (is_allowed m (length state.document.text - 0 + 1))) h.most
+    ∙ ap (λ (n : ℕ). not (is_allowed maximum n)) count in
+    ap (λ (b : Bool). ((b && state.settings.single_line) || has_no_room state) || state.settings.read_only) breaks
+    ∙ ap (λ (b : Bool). has_no_room state || b) h.editable ∙ or-false (has_no_room state) ∙ room
 
-pub text_sent : (state new : State) (typed : List ℕ) → IsTypedLine state typed → new ≡ unless_read_only state (text_cleared state) → IsTypedLine new []
+pub character_typed : (state new : State) (maximum : Option ℕ) (typed : List ℕ) (c : ℕ) → IsTypedLine state maximum typed → breaks_line c ≡ false
+    → new ≡ cond (bars_character state c) state (char_inserted state c) → IsTypedLine new maximum (with_character maximum typed c)
+character_typed state new maximum typed c h breaks is =
+    by (is_allowed maximum (length typed + 1)) (is ∙ ap (λ (b : Bool). cond b state (char_inserted state c)) (barred_is state maximum typed c h breaks))
+  where
+    left : State
+    left = unselected (call_begun state)
+
+    by : (fits : Bool) → new ≡ cond (not fits) state (char_inserted state c) → IsTypedLine new maximum (cond fits (typed ++ c ∷ []) typed)
+    by true made =
+        made_holds state new (char_inserted state c) maximum typed (typed ++ c ∷ []) h made (either state (breaks_line c) (line_broken left) (typed_character_inserted left c) refl refl)
+        (line_typed state new typed c (line_of state maximum typed h) breaks made)
+    by false made = subst (λ (s : State). IsTypedLine s maximum typed) (sym made) h
+
+pub text_sent : (state new : State) (maximum : Option ℕ) (typed : List ℕ) → IsTypedLine state maximum typed → new ≡ unless_read_only state (text_cleared state) → IsTypedLine new maximum []
 unfolding yanked
-text_sent state new typed h is =
+text_sent state new maximum typed h is =
     let text = state.document.text in
-    holds state new (text_cleared state) typed [] h is (either state (has_symbols text) (yanked state (0, 0) (place_of text (length text))) state refl refl)
-    (λ made. line_cleared state new typed (line_of state typed h) made)
+    holds state new (text_cleared state) maximum typed [] h is (either state (has_symbols text) (yanked state (0, 0) (place_of text (length text))) state refl refl)
+    (λ made. line_cleared state new typed (line_of state maximum typed h) made)
 
-pub character_removed : (state new : State) (typed : List ℕ) → IsTypedLine state typed → new ≡ unless_read_only state (unselected_or state (symbol_before_removed state))
-    → IsTypedLine new (take (length typed - 1) typed)
-character_removed state new typed h is =
-    holds state new (unselected_or state (symbol_before_removed state)) typed (take (length typed - 1) typed) h is
+pub character_removed : (state new : State) (maximum : Option ℕ) (typed : List ℕ) → IsTypedLine state maximum typed
+    → new ≡ unless_read_only state (unselected_or state (symbol_before_removed state)) → IsTypedLine new maximum (take (length typed - 1) typed)
+character_removed state new maximum typed h is =
+    holds state new (unselected_or state (symbol_before_removed state)) maximum typed (take (length typed - 1) typed) h is
     (either state (is_selected state.document) (unselected state) (symbol_before_removed state) refl refl)
-    (λ made. line_shortened state new typed (line_of state typed h) made)
+    (λ made. line_shortened state new typed (line_of state maximum typed h) made)
 
-pub typing_failed : (state new : State) (typed : List ℕ) → IsTypedLine state typed → IsInsertOutOfMemory state new → IsTypedLine new typed
-typing_failed state new typed h left =
-    let line = line_left state new typed (line_of state typed h) left in
-    record {
-      text = line.text;
-      cursor = line.cursor;
-      anchor = line.anchor;
-      ranges = line.ranges;
-      editable = ⊎_elim (λ same. ap (λ (s : State). s.settings.read_only) same ∙ h.editable) (λ gone. ap (λ (s : State). s.settings.read_only) gone ∙ h.editable) left;
-    }
+pub typing_failed : (state new : State) (maximum : Option ℕ) (typed : List ℕ) → IsTypedLine state maximum typed → IsInsertOutOfMemory state new → IsTypedLine new maximum typed
+typing_failed state new maximum typed h left =
+    let line = line_left state new typed (line_of state maximum typed h) left in
+    ⊎_elim (λ same. made_holds state new state maximum typed typed h same refl line) (λ gone. made_holds state new (unselected state) maximum typed typed h gone refl line) left

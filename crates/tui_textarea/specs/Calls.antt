@@ -24,7 +24,8 @@ use Rattle.textarea_document.specs.Splices.{after_splices, before_splices, break
 use Rattle.tui_textarea.specs.State.{State, with_change_log, with_changes_taken, with_document, with_other_lines}
 use Rattle.tui_textarea.specs.Splices.{ahead_splices, char_splices, clear_splices, line_end_splices, line_head_splices, selected_splices_or, str_splices, tab_splices, word_after_splices, word_before_splices}
 use Rattle.tui_textarea.specs.Edits.{inserts_tab, inserts_text, char_inserted, newline_inserted, tab_inserted, str_inserted}
-use Rattle.tui_textarea.specs.Guards.{admitted, admitted_between, admitted_for, admitted_over_selection, barred_after, bars_break, bars_character, bars_duplicate, bars_each, bars_indent, bars_tab, has_several_lines, is_barred, is_editable, removable_range, single_line_set}
+use Rattle.tui_textarea.specs.Guards.{admitted, admitted_between, admitted_for, admitted_over_selection, barred_after}
+use Rattle.tui_textarea.specs.Guards.{bars_break, bars_character, bars_duplicate, bars_each, bars_indent, bars_tab, has_several_lines, is_barred, is_editable, removable_range, single_line_set}
 use Rattle.tui_textarea.specs.Grouping.{typing_ended, undo_group_begun, undo_group_ended}
 use Rattle.tui_textarea.specs.Removals.{break_before_removed, text_cleared, has_ahead, has_before, has_after, has_break_before, has_line_before, has_line_after, has_word_before}
 use Rattle.tui_textarea.specs.Removals.{has_word_after, line_end_removed, line_head_removed, removes_or, symbol_before_removed, symbol_after_removed, symbols_ahead_removed}

@@ -66,7 +66,8 @@ pub use Rattle.tui_textarea.specs.GroupLaw.{IsEditUndoneAtOnce, IsInsertion, IsR
 pub use Rattle.tui_textarea.specs.Grouping.{call_begun, call_ended, closed_if, opens_group, typing_ended, undo_group_begun, undo_group_ended, with_group}
 pub use Rattle.tui_textarea.specs.Edits.{fitting_spaces}
 pub use Rattle.tui_textarea.specs.Fitting.{fitting_selection}
-pub use Rattle.tui_textarea.specs.Guards.{SetsLines, admitted, admitted_between, admitted_for, admitted_over_selection, bars_break, bars_character, bars_duplicate, bars_each, bars_indent, bars_lines, bars_tab, has_several_lines, is_editable, other_lines_set, removable_range, single_line_set, unless_read_only}
+pub use Rattle.tui_textarea.specs.Guards.{admitted, admitted_between, admitted_for, admitted_over_selection, bars_break, bars_character, bars_duplicate, bars_each, bars_indent, bars_lines, bars_tab}
+pub use Rattle.tui_textarea.specs.Guards.{SetsLines, has_several_lines, is_editable, other_lines_set, removable_range, single_line_set, unless_read_only}
 pub use Rattle.tui_textarea.specs.Hit.{IsHitTest, IsLastArea, IsWithoutCell}
 pub use Rattle.tui_textarea.specs.Input.{ActMayRunOutOfMemory, IsAfterAction, IsInputOutOfMemory, action_flag, asked_by, asked_without_shortcuts}
 pub use Rattle.tui_textarea.specs.LayoutCalls.{indent_of}
@@ -87,4 +88,4 @@ pub use Rattle.tui_textarea.specs.Selection.{IsInsertOutOfMemory, all_selected, 
 pub use Rattle.tui_textarea.specs.State.{State, default_settings, new_state, text_of_each, with_change_log, with_changes_taken, with_document, with_other_lines}
 pub use Rattle.tui_textarea.specs.TextAreaLaw.{HasRowsFromScratch, PastesCopy}
 pub use Rattle.tui_textarea.specs.Matches.{AreInTextOrder, LeadsToFirstMatch, LeadsToMatchAfter}
-pub use Rattle.tui_textarea.specs.TypedLine.{IsTypedLine}
+pub use Rattle.tui_textarea.specs.TypedLine.{IsTypedLine, with_character}

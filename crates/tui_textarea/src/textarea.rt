@@ -167,9 +167,9 @@ impl<'a> TextArea<'a> {
     /// Replaces all lines, and moves the cursor to the position in them that is nearest to
     /// `cursor`. Forgets all edits, the selection, the atomic ranges and the custom highlights, and
     /// resets the viewport's numbers to 0. Settings, search pattern, yanked text, the last area and
-    /// the caret stay. A line feed inside a line stays a character of that line. A log of changes gets
-    /// a change of the whole text. A text area of a single line takes no more than one: several change
-    /// nothing.
+    /// the caret stay. A line feed inside a line stays a character of that line. A log of changes
+    /// gets a change of the whole text. A text area of a single line takes no more than one: several
+    /// change nothing.
     pub fn set_lines(
         &mut self,
         lines: Vec<String>,

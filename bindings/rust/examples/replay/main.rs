@@ -2,8 +2,9 @@
 //!
 //!     cargo run --example replay < script
 //!
-//! The commands are those of calls.rs, `insert_char`, `insert_str`, `move`, `set_search_pattern`,
-//! `set_search_text`, `replace_match` and `replace_all`. Texts have no escape `\u{..}`.
+//! The commands are those of calls.rs, `insert_char`, `insert_str`, `move`, `set_max_chars`,
+//! `set_search_pattern`, `set_search_text`, `replace_match` and `replace_all`. Texts have no escape
+//! `\u{..}`.
 
 #![allow(clippy::unit_arg)] // a call without a result is passed to `done`
 
@@ -72,6 +73,7 @@ fn result_of(area: &mut TextArea, line: &str) -> String {
         "insert_str" => flag(area.insert_str(unescaped(words))),
         "replace_match" => flag(area.replace_match(unescaped(words))),
         "move" => done(area.move_cursor(move_named(words))),
+        "set_max_chars" => done(area.set_max_chars(words.parse().ok())), // none for `None`
         "set_search_pattern" => match area.set_search_pattern(unescaped(words)) {
             Ok(()) => "ok",
             Err(_) => "pattern",

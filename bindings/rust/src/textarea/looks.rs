@@ -38,8 +38,8 @@ impl TextArea<'_> {
     }
 
     /// Sets the greatest number of characters of the text, a line break counted as one, or none for
-    /// `None`, as at first. Then what is typed does nothing if it doesn't fit, and an inserted text is
-    /// cut at the end of the last of its grapheme clusters that fits. `duplicate_line`,
+    /// `None`, as at first. Then what is typed does nothing if it doesn't fit, and an inserted text
+    /// is cut at the end of the last of its grapheme clusters that fits. `duplicate_line`,
     /// `indent_lines` and `replace_all` do nothing unless all that they insert fits. Undo, redo and
     /// `set_lines` are never cut.
     ///
@@ -64,7 +64,9 @@ impl TextArea<'_> {
     /// Returns the greatest number of characters of the text; `None` for any number.
     pub fn max_chars(&self) -> Option<usize> {
         let mut maximum = 0;
-        let is_set = self.core.is(|h| unsafe { sys::ta_max_chars(h, &mut maximum) });
+        let is_set = self
+            .core
+            .is(|h| unsafe { sys::ta_max_chars(h, &mut maximum) });
         is_set.then_some(maximum)
     }
 

@@ -1,11 +1,13 @@
 //! # Form
 //!
-//! A form: three fields of one line, each of which checks itself.
+//! A form: three fields of one line. One can't be changed, and the others check themselves.
 //!
 //! Keys: Tab, Enter: the next field; Shift with Tab: the one before; Enter in the last one sends it
 //!
 //! - Each field is a text area. `take` gives the keys to the one with the focus, which is the only
 //!   one that shows its cursor.
+//! - `set_single_line` makes a pasted line end a space, `set_max_chars` leaves out a port's sixth
+//!   digit, and `set_read_only` all that is typed.
 //! - The border of a field is green once its text is right.
 //! - `intersection` cuts a field off where the screen is too low.
 ghost use Rattle.gallery.specs.Ends.{EndsByEscPerhapsEnter};
@@ -22,27 +24,48 @@ pub struct Form {
 
 fn is_right(title: &str, text: &str) -> bool {
     match title {
-        " Name " => !text.is_empty(),
         " Port " => text.parse::<u16>().is_ok(),
-        _ => text.chars().count() >= 8,
+        " Secret " => text.chars().count() >= 8,
+        _ => true,
     }
 }
 
 // What a field asks for.
 fn asked_by(title: &str) -> &'static str {
     match title {
-        " Name " => "Type a name.",
         " Port " => "Type a number, at most 65535.",
         _ => "Type at least 8 characters.",
     }
 }
 
+// An empty field of one line.
+fn line_field(alloc: Global, title: &'static str) -> Result<TextArea<'static>, AllocError> {
+    let mut area = field(alloc, title)?;
+    area.set_single_line(true);
+    Ok(area)
+}
+
+// A field with a text that can't be changed.
+fn server_field(alloc: Global, title: &'static str) -> Result<TextArea<'static>, AllocError> {
+    let mut area = line_field(alloc, title)?;
+    let filled = area.insert_str("example.org");
+    area.set_read_only(true);
+    filled.map(|_| area)
+}
+
+// A field for five digits.
+fn port_field(alloc: Global, title: &'static str) -> Result<TextArea<'static>, AllocError> {
+    let mut area = line_field(alloc, title)?;
+    area.set_max_chars(Some(5));
+    Ok(area)
+}
+
 impl Form {
     pub fn new(alloc: Global) -> Result<Form, AllocError> {
         let mut fields = Vec::new(alloc);
-        for title in [" Name ", " Port ", " Secret "] {
-            fields.push((title, field(alloc, title)?))?;
-        }
+        fields.push((" Server ", server_field(alloc, " Server ")?))?;
+        fields.push((" Port ", port_field(alloc, " Port ")?))?;
+        fields.push((" Secret ", line_field(alloc, " Secret ")?))?;
         Ok(Form { fields, focus: 0 })
     }
 
@@ -77,6 +100,14 @@ impl Form {
             }
         }
         Ok(true)
+    }
+
+    /// Inserts a pasted text into the field with the focus.
+    pub fn paste(&mut self, text: &str) -> Result<(), AllocError> {
+        if let Some((_, field)) = self.fields.get_mut(self.focus) {
+            field.insert_pasted(text)?;
+        }
+        Ok(())
     }
 
     /// Draws the fields one below another, and then what is asked for. The border of a field that is

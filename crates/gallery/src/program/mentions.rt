@@ -1,5 +1,5 @@
 //! Mentions: names in a text area that are atomic ranges.
-ghost use Rattle.std.specs.Prelude.{◌≡◌, Contains};
+ghost use Rattle.std.specs.Prelude.{◌≡◌, ◌&&◌, Contains, is_some, not};
 ghost use Rattle.gallery.specs.Mentions.{AreWhole, names};
 
 use crate::program::byte_of;
@@ -20,8 +20,16 @@ pub fn name_of(turn: usize) -> &'static str
     }
 }
 
-/// Inserts a name at the cursor as a mention, unless the text area is read only. All mentions stay
-/// whole.
+// Returns whether names are inserted whole: a text area that is read only takes none, and one with a
+// greatest number of characters may cut them.
+fn takes_whole_names(area: &TextArea<'_>) -> bool
+    ensures { result
+        ≡ (not area.now.settings.read_only && not (is_some area.now.settings.max_chars)) }
+{
+    !area.read_only() && area.max_chars().is_none()
+}
+
+/// Inserts a name at the cursor as a mention, where names are inserted whole. All mentions stay so.
 pub fn mention(
     area: &mut TextArea<'_>,
     alloc: Global,
@@ -33,10 +41,10 @@ pub fn mention(
     is_sound(area);
     ranges_cover_no_more();
     splices_split_no_range();
-    let inserted = area.insert_str(name)?;
-    if !inserted {
+    if !takes_whole_names(area) {
         return Ok(Ok(()));
     }
+    area.insert_str(name)?;
     let (row, end_col) = area.cursor();
     // A name has a byte for each character.
     let start_col = end_col.saturating_sub(name.len());

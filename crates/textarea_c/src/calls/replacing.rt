@@ -1,12 +1,12 @@
 //! Replacements of text, and of what lines begin with, each one group of edits.
-ghost use Rattle.std.specs.Prelude.{◌≡◌, ◌≢◌, ◌&&◌, IfSome, None, false, if◌then◌else◌, is_some, length, true};
+ghost use Rattle.std.specs.Prelude.{◌≡◌, ◌≢◌, ◌&&◌, IfSome, None, false, if◌then◌else◌, is_some, length, not, true};
 ghost use Rattle.std.specs.Str.{chars};
 ghost use Rattle.textarea_document.specs.Indenting.{lines_indented, lines_outdented, shifts_lines};
 ghost use Rattle.textarea_document.specs.Replacing.{replaces, stretch_symbols};
 ghost use Rattle.textarea_text.specs.Fragment.{fragment_symbols, fragment_text};
-ghost use Rattle.tui_textarea.specs.Prelude.{admitted, admitted_between, admitted_for, is_editable, unless_read_only, with_document};
+ghost use Rattle.tui_textarea.specs.Prelude.{admitted, admitted_between, admitted_for, bars_indent, is_editable, unless_read_only, with_document};
 ghost use Rattle.tui_textarea.specs.Replacing.{match_at_cursor, match_replaced, matches_replaced, replaceable, with_range_replaced};
-ghost use Rattle.textarea_c.specs.Calls.{Calls, ChangesArea, Copies, Given, Replaces};
+ghost use Rattle.textarea_c.specs.Calls.{Calls, ChangesArea, Copies, Given, Replaces, bars_replacement};
 ghost use Rattle.textarea_c_data.specs.Lines.{AreCharactersOut};
 ghost use Rattle.textarea_c_data.specs.Texts.{text_in};
 
@@ -121,10 +121,11 @@ pub extern "C" fn ta_replace_all(
 ) -> u32
     ensures replaced { Calls handle.old.stored.content result handle.new.stored.content
         (λ a b. Given (text_in text.now) (λ t. ChangesArea
-        (unless_read_only a.area (matches_replaced a.area (admitted a.area (fragment_symbols (chars t)))))) result a b) }
+        (if bars_replacement a.area t then a.area else matches_replaced a.area
+        (admitted a.area (fragment_symbols (chars t))))) result a b) }
     ensures value { result ≡ 0 → IfSome handle.old.stored.content
-        (λ a. count.new
-        ≡ (if a.area.settings.read_only then 0 else length (replaceable a.area))) }
+        (λ a. IfSome (text_in text.now) (λ t. count.new
+        ≡ (if bars_replacement a.area t then 0 else length (replaceable a.area)))) }
     ensures no_pattern { IfSome handle.old.stored.content
         (λ a. a.area.pattern ≡ None → result ≢ 2) }
     ensures unwritten { result ≢ 0 → count.new ≡ count.old }
@@ -144,9 +145,9 @@ pub extern "C" fn ta_replace_all(
 #[unsafe(no_mangle)]
 pub extern "C" fn ta_indent_lines(handle: &mut Handle, alloc: Global) -> u32
     ensures { Calls handle.old.stored.content result handle.new.stored.content
-        (λ a b. Replaces (is_editable a.area && shifts_lines a.area.document false)
-        (unless_read_only a.area (with_document a.area
-        (lines_indented a.area.document a.area.settings.hard_tab_indent a.area.time))) result a b) }
+        (λ a b. Replaces (not (bars_indent a.area) && shifts_lines a.area.document false)
+        (if bars_indent a.area then a.area else with_document a.area
+        (lines_indented a.area.document a.area.settings.hard_tab_indent a.area.time)) result a b) }
 {
     on!(handle, alloc, editor => flag(editor.area.indent_lines()))
 }
@@ -169,11 +170,12 @@ pub extern "C" fn ta_outdent_lines(handle: &mut Handle, alloc: Global) -> u32
 
 // Replaces each match, writes their number, and returns the status.
 fn replace_matches(editor: &mut Editor, text: &str, count: &mut usize) -> u32
-    ensures replaced { ChangesArea (unless_read_only editor.old.area
-        (matches_replaced editor.old.area (admitted editor.old.area (fragment_symbols (chars text.now)))))
+    ensures replaced { ChangesArea (if bars_replacement editor.old.area text.now
+        then editor.old.area else matches_replaced editor.old.area
+        (admitted editor.old.area (fragment_symbols (chars text.now))))
         result editor.old editor.new }
-    ensures value { result ≡ 0 → count.new
-        ≡ (if editor.old.area.settings.read_only then 0 else length (replaceable editor.old.area)) }
+    ensures value { result ≡ 0 → count.new ≡ (if bars_replacement editor.old.area text.now
+        then 0 else length (replaceable editor.old.area)) }
     ensures no_pattern { editor.old.area.pattern ≡ None → result ≢ 2 }
     ensures unwritten { result ≢ 0 → count.new ≡ count.old }
 {

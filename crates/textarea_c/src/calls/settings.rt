@@ -35,7 +35,7 @@ pub extern "C" fn ta_indent(
 /// typed does nothing if it doesn't fit, and an inserted text is cut at the end of the last of its
 /// grapheme clusters that fits. `ta_duplicate_line`, `ta_indent_lines` and `ta_replace_all` do
 /// nothing unless all that they insert fits. Undo, redo and `ta_set_lines` are never cut. There is
-/// none at first.
+/// no such number at first, and after `ta_clear_max_chars`.
 ///
 /// Statuses: ok, empty handle.
 #[unsafe(no_mangle)]
@@ -49,7 +49,7 @@ pub extern "C" fn ta_set_max_chars(handle: &mut Handle, alloc: Global, maximum: 
     })
 }
 
-/// Sets no greatest number of characters.
+/// Lets the text have any number of characters, as at first.
 ///
 /// Statuses: ok, empty handle.
 #[unsafe(no_mangle)]
@@ -65,7 +65,7 @@ pub extern "C" fn ta_clear_max_chars(handle: &mut Handle, alloc: Global) -> u32
 
 /// Returns the greatest number of characters of the text.
 ///
-/// Statuses: ok, false (there is none), empty handle.
+/// Statuses: ok, false (there is none: any number fits), empty handle.
 #[unsafe(no_mangle)]
 pub extern "C" fn ta_max_chars(handle: &mut Handle, alloc: Global, maximum: &mut usize) -> u32
     ensures unchanged { Calls handle.old.stored.content result handle.new.stored.content

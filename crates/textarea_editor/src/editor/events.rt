@@ -177,8 +177,8 @@ fn scroll_help(help: &mut TextArea<'static>, scrolling: Scrolling)
     }
 }
 
-// Returns whether a scroll down goes on past the first row from which on the help's lines fill the
-// window.
+// Returns whether a scroll goes down so far that the window would have blank rows after the help's
+// last line.
 fn scrolls_past_end(help: &TextArea<'static>, scrolling: Scrolling) -> bool
     ensures { result ≡ scrolls_past_end help.now scrolling }
 {

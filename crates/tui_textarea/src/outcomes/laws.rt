@@ -105,8 +105,8 @@ pub fn splices_split_no_range()
     ranges_follow_splices();
 }
 
-/// A call that doesn't edit, by `Call::edits`, makes no splice in any state, and leaves the text as it
-/// is.
+/// A call that doesn't edit, by `Call::edits`, makes no splice in any state, and leaves the text as
+/// it is.
 pub fn others_edit_nothing()
     ensures no_splice { (state : State) (call : Call) → edits call ≡ false →
         splices_of state call ≡ [] }

@@ -1,10 +1,11 @@
 //! Insertions. Each but `duplicate_line` first removes the selected text, as its own edit, and then
 //! moves a cursor that is strictly inside an atomic range to the range's end. With grouping on, both
 //! edits are one group.
-ghost use Rattle.std.specs.Prelude.{◌≡◌, ◌<◌, OnOk, OnErr, IsOk, IfOk, true, false, not, [], replicate, vec_len, ◌&&◌, if◌then◌else◌};
+ghost use Rattle.std.specs.Prelude.{◌≡◌, ◌<◌, OnOk, OnErr, IsOk, IfOk, true, false, not, [], length, replicate, vec_len, ◌&&◌, if◌then◌else◌};
 ghost use Rattle.std.specs.Arc.{arc_value};
 ghost use Rattle.std.specs.Str.{chars};
 ghost use Rattle.textarea_document.specs.Selection.{first_selected_row, last_selected_row, lines_duplicated, with_lines_again};
+ghost use Rattle.tui_textarea.specs.Fitting.{fitting_beside};
 ghost use Rattle.tui_textarea.specs.Prelude.{Character, lines, with_document, text_of, has_symbols, is_selected, fragment_symbols, pasted_symbols, inserts_tab, inserts_text, symbols_or_none_inserted, spaces_to_stop, char_inserted, char_or_break_inserted, line_broken, newline_inserted, tab_inserted, tab_or_spaces_inserted, str_inserted, IsInsertOutOfMemory, selection_cancelled, unselected, admitted_over_selection, bars_break, bars_character, bars_duplicate, bars_tab, fitting_selection, fitting_spaces, is_editable, unless_read_only};
 
 use crate::textarea::TextArea;
@@ -30,7 +31,7 @@ impl TextArea<'_> {
         self.insert_char_unguarded(c)
     }
 
-    // The same, whether the text area is read only or not.
+    // The same, whether a guard leaves it out or not.
     fn insert_char_unguarded(&mut self, c: char) -> Result<(), AllocError>
         ensures ok { OnOk result (self.new ≡ char_inserted self.old c) }
         ensures err { OnErr result (IsInsertOutOfMemory self.old self.new) }
@@ -64,7 +65,8 @@ impl TextArea<'_> {
 
     /// Breaks the line at the cursor, or at the end of the atomic range that strictly contains it.
     pub fn insert_newline(&mut self) -> Result<(), AllocError>
-        ensures ok { OnOk result (self.new ≡ (if bars_break self.old then self.old else (newline_inserted self.old))) }
+        ensures ok { OnOk result
+            (self.new ≡ (if bars_break self.old then self.old else newline_inserted self.old)) }
         ensures err { OnErr result (IsInsertOutOfMemory self.old self.new) }
         ensures nothing { bars_break self.old ≡ true → IsOk result }
     {
@@ -74,7 +76,7 @@ impl TextArea<'_> {
         self.insert_newline_unguarded()
     }
 
-    // The same, whether the text area is read only or not.
+    // The same, whether a guard leaves it out or not.
     fn insert_newline_unguarded(&mut self) -> Result<(), AllocError>
         ensures ok { OnOk result (self.new ≡ newline_inserted self.old) }
         ensures err { OnErr result (IsInsertOutOfMemory self.old self.new) }
@@ -100,8 +102,8 @@ impl TextArea<'_> {
     pub fn insert_str(&mut self, text: &str) -> Result<bool, AllocError>
         ensures inserted { IfOk result (λ inserted. inserted ≡ (is_editable self.old && inserts_text
             self.old (admitted_over_selection self.old (fragment_symbols (chars text.now))))) }
-        ensures ok { OnOk result (self.new ≡ unless_read_only self.old (str_inserted self.old (admitted_over_selection self.old
-            (fragment_symbols (chars text.now))))) }
+        ensures ok { OnOk result (self.new ≡ unless_read_only self.old (str_inserted self.old
+            (admitted_over_selection self.old (fragment_symbols (chars text.now))))) }
         ensures err { OnErr result (IsInsertOutOfMemory self.old self.new) }
         ensures nothing { (is_editable self.old && inserts_text self.old (fragment_symbols (chars
             text.now))) ≡ false → IsOk result }
@@ -112,7 +114,7 @@ impl TextArea<'_> {
         self.insert_str_unguarded(text)
     }
 
-    // The same, whether the text area is read only or not.
+    // The same, whether a guard leaves it out or not.
     fn insert_str_unguarded(&mut self, text: &str) -> Result<bool, AllocError>
         ensures inserted { IfOk result
             (λ inserted. inserted ≡ inserts_text self.old
@@ -130,7 +132,10 @@ impl TextArea<'_> {
         let removes = self.document.filled_selection().is_some();
         let fragment_lines = self.admitted_fragment(text)?;
         let inserts = self.insert_over_selection(fragment_lines)?;
-        Ok(removes || inserts)
+        if removes {
+            return Ok(true);
+        }
+        Ok(inserts)
     }
 
     /// Inserts a text that was pasted from outside, where `insert_str` inserts, and returns whether
@@ -139,8 +144,8 @@ impl TextArea<'_> {
     pub fn insert_pasted(&mut self, text: &str) -> Result<bool, AllocError>
         ensures inserted { IfOk result (λ inserted. inserted ≡ (is_editable self.old && inserts_text
             self.old (admitted_over_selection self.old (pasted_symbols (chars text.now))))) }
-        ensures ok { OnOk result (self.new ≡ unless_read_only self.old (str_inserted self.old (admitted_over_selection self.old
-            (pasted_symbols (chars text.now))))) }
+        ensures ok { OnOk result (self.new ≡ unless_read_only self.old (str_inserted self.old
+            (admitted_over_selection self.old (pasted_symbols (chars text.now))))) }
         ensures err { OnErr result (IsInsertOutOfMemory self.old self.new) }
         ensures nothing { (is_editable self.old && inserts_text self.old (pasted_symbols (chars
             text.now))) ≡ false → IsOk result }
@@ -151,7 +156,7 @@ impl TextArea<'_> {
         self.insert_pasted_unguarded(text)
     }
 
-    // The same, whether the text area is read only or not.
+    // The same, whether a guard leaves it out or not.
     fn insert_pasted_unguarded(&mut self, text: &str) -> Result<bool, AllocError>
         ensures inserted { IfOk result
             (λ inserted. inserted ≡ inserts_text self.old
@@ -170,11 +175,12 @@ impl TextArea<'_> {
         self.insert_str_unguarded(unified.as_str())
     }
 
-    /// Inserts the yanked text where `insert_str` inserts, and returns whether there was any.
+    /// Inserts the yanked text where `insert_str` inserts, and returns whether it inserted a symbol.
     pub fn paste(&mut self) -> Result<bool, AllocError>
         ensures inserted { IfOk result (λ inserted. inserted ≡ (is_editable self.old && has_symbols
             (admitted_over_selection self.old self.old.yank))) }
-        ensures ok { OnOk result (self.new ≡ unless_read_only self.old (str_inserted self.old (admitted_over_selection self.old self.old.yank))) }
+        ensures ok { OnOk result (self.new ≡ unless_read_only self.old (str_inserted self.old
+            (admitted_over_selection self.old self.old.yank))) }
         ensures err { OnErr result (IsInsertOutOfMemory self.old self.new) }
         ensures nothing { (is_editable self.old && inserts_text self.old self.old.yank) ≡ false →
             IsOk result }
@@ -185,11 +191,12 @@ impl TextArea<'_> {
         self.paste_unguarded()
     }
 
-    // The same, whether the text area is read only or not.
+    // The same, whether a guard leaves it out or not.
     fn paste_unguarded(&mut self) -> Result<bool, AllocError>
         ensures inserted { IfOk result (λ inserted. inserted ≡ has_symbols
             (admitted_over_selection self.old self.old.yank)) }
-        ensures ok { OnOk result (self.new ≡ str_inserted self.old (admitted_over_selection self.old self.old.yank)) }
+        ensures ok { OnOk result (self.new
+            ≡ str_inserted self.old (admitted_over_selection self.old self.old.yank)) }
         ensures err { OnErr result (IsInsertOutOfMemory self.old self.new) }
         ensures nothing { inserts_text self.old self.old.yank ≡ false → IsOk result }
     {
@@ -227,8 +234,23 @@ impl TextArea<'_> {
         ensures err { OnErr result (IsInsertOutOfMemory self.old self.new) }
     {
         self.document.remove_selection(self.time)?;
-        let fitting = self.fitting(fragment_lines, self.symbol_count())?;
+        let fitting = self.fitting_fragment(fragment_lines)?;
         self.document.insert(fitting, self.time)
+    }
+
+    // Returns what fits of the fragment into the text as it is.
+    fn fitting_fragment(
+        &self,
+        fragment_lines: Arc<Vec<String>>,
+    ) -> Result<Arc<Vec<String>>, AllocError>
+        ensures { IfOk result (λ fitting. text_of (arc_value fitting).items ≡ fitting_beside
+            self.now.settings.max_chars (length self.now.document.text)
+            (text_of (arc_value fragment_lines).items)) }
+    {
+        if self.settings.max_chars.is_none() {
+            return Ok(fragment_lines);
+        }
+        self.fitting(fragment_lines, self.symbol_count())
     }
 
     /// Inserts the cursor's line once more below it, or the lines of the selection below the last of
@@ -237,8 +259,8 @@ impl TextArea<'_> {
     /// ranges stay with the first lines, and the copy has none. What was yanked stays. After it the
     /// lines are those up to the last of these lines, and then those from the first of them on.
     pub fn duplicate_line(&mut self) -> Result<(), AllocError>
-        ensures ok { OnOk result (self.new ≡ (if bars_duplicate self.old then self.old else (with_document self.old
-            (lines_duplicated self.old.document self.old.time)))) }
+        ensures ok { OnOk result (self.new ≡ (if bars_duplicate self.old then self.old else
+            with_document self.old (lines_duplicated self.old.document self.old.time))) }
         ensures err { OnErr result (self.new ≡ self.old) }
         ensures lines { OnOk result (lines self.new.document.text ≡ (if bars_duplicate self.old
             then lines self.old.document.text else with_lines_again (lines self.old.document.text)
@@ -251,7 +273,7 @@ impl TextArea<'_> {
         self.duplicate_line_unguarded()
     }
 
-    // The same, whether the text area is read only or not.
+    // The same, whether a guard leaves it out or not.
     fn duplicate_line_unguarded(&mut self) -> Result<(), AllocError>
         ensures ok { OnOk result (self.new
             ≡ with_document self.old (lines_duplicated self.old.document self.old.time)) }
@@ -280,7 +302,7 @@ impl TextArea<'_> {
         self.insert_tab_unguarded()
     }
 
-    // The same, whether the text area is read only or not.
+    // The same, whether a guard leaves it out or not.
     fn insert_tab_unguarded(&mut self) -> Result<bool, AllocError>
         ensures inserted { IfOk result (λ inserted. inserted ≡ inserts_tab self.old) }
         ensures ok { OnOk result (self.new ≡ tab_inserted self.old) }

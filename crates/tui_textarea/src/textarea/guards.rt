@@ -6,22 +6,23 @@ ghost use Rattle.std.specs.Str.{chars};
 ghost use Rattle.textarea_text.specs.Text.{characters};
 ghost use Rattle.tui_textarea.specs.Fitting.{beginning, fits_duplicate, fits_each, fits_for, fits_indent, fitting_beside, fitting_count, has_no_room, removed_by};
 ghost use Rattle.tui_textarea.specs.Guards.{spaced};
-ghost use Rattle.tui_textarea.specs.Prelude.{admitted, bars_break, bars_character, bars_lines, has_several_lines, single_line_set, bars_duplicate, bars_tab, lines_of, size_limit, size_of, text_of};
+ghost use Rattle.tui_textarea.specs.Prelude.{admitted, bars_break, bars_character, bars_lines, has_several_lines, single_line_set, bars_duplicate, bars_tab, lines, lines_of, size_limit, size_of, text_of};
 
 use crate::textarea::TextArea;
 use std::alloc::{AllocError, Global};
 use std::sync::Arc;
 use textarea_clusters::edges::edge_back;
+use textarea_document::Document;
 use textarea_text::places::{ahead, line_of};
 use textarea_text::rows::column_count;
 use textarea_text::text_slice::between;
 
 impl TextArea<'_> {
     /// Sets whether the text area is read only. Then no call but `set_lines` changes the text: every
-    /// other call that edits, and an undo and a redo, changes nothing, neither what is yanked nor the
-    /// selection, takes no memory, and returns false, 0 or `None`. But `cut` does what `copy` does, and
-    /// returns whether a text was selected. An input that would edit returns false. Moves, selections,
-    /// searches and settings work as ever. A new text area can be edited.
+    /// other call that edits, and an undo and a redo, changes nothing, neither what is yanked nor
+    /// the selection, takes no memory, and returns false, 0 or `None`. But `cut` does what `copy`
+    /// does, and returns whether a text was selected. An input that would edit returns false. Moves,
+    /// selections, searches and settings work as ever. A new text area can be edited.
     pub fn set_read_only(&mut self, read_only: bool)
         ensures { self.new
             ≡ record self.old
@@ -39,10 +40,10 @@ impl TextArea<'_> {
 
     /// Sets whether the text is kept in a single line, and returns whether it could be set. Then
     /// `insert_newline`, `duplicate_line`, and `insert_char` of a line feed or a carriage return do
-    /// nothing, an input for them returns false, each break of a text that is inserted or pasted becomes
-    /// a space, and `set_lines` of several lines does nothing. Setting it forgets all edits, since they
-    /// may have had breaks. A text of several lines can't be kept in one: then nothing changes, and the
-    /// result is false. A new text area may have several lines.
+    /// nothing, an input for them returns false, each break of a text that is inserted or pasted
+    /// becomes a space, and `set_lines` of several lines does nothing. Setting it forgets all edits,
+    /// since they may have had breaks. A text of several lines can't be kept in one: then nothing
+    /// changes, and the result is false. A new text area may have several lines.
     pub fn set_single_line(&mut self, single_line: bool) -> bool
         ensures set { result ≡ not (single_line && has_several_lines self.old) }
         ensures new { self.new ≡ single_line_set self.old single_line }
@@ -159,9 +160,10 @@ impl TextArea<'_> {
         let columns = if self.settings.hard_tab_indent {
             1
         } else {
-            usize::from(self.document.layout_settings().tab_len)
+            self.document.layout_settings().tab_len
         };
-        Ok(self.fits(stretches.len() * columns))
+        lines_are_few(&self.document);
+        Ok(self.fits(stretches.len() * usize::from(columns)))
     }
 
     // Returns whether the fragment fits in place of each of these stretches.
@@ -173,9 +175,9 @@ impl TextArea<'_> {
             return true;
         };
         let removed = removed_by(stretches);
-        let others = self.symbol_count().saturating_sub(removed);
-        let room = maximum.saturating_sub(others).max(removed);
-        has_at_most(fragment_lines, room / stretches.len())
+        let others = (self.symbol_count() as u128).saturating_sub(removed);
+        let room = (maximum as u128).saturating_sub(others).max(removed);
+        has_at_most(fragment_lines, room / stretches.len() as u128)
     }
 
     // Returns the number of symbols of the text.
@@ -239,6 +241,13 @@ impl TextArea<'_> {
     }
 }
 
+// A document has at most as many lines as the size limit.
+fn lines_are_few(document: &Document)
+    ensures { length (lines document.now.text) ≤ size_limit }
+{
+    document.lines();
+}
+
 // Joins the lines of a fragment by spaces.
 fn join_with_spaces(alloc: Global, fragment_lines: &[String]) -> Result<String, AllocError>
     ensures { IfOk result (λ s. characters (chars (string_bytes s))
@@ -286,31 +295,31 @@ fn beginning(
     between(alloc, fragment_lines, (0, 0), (row, end))
 }
 
-// Returns the number of symbols in all these stretches.
-fn removed_by(stretches: &[(usize, usize)]) -> usize
+// Returns the number of symbols in all these stretches, for which a `usize` may be too small.
+fn removed_by(stretches: &[(usize, usize)]) -> u128
     ensures { result ≡ removed_by stretches.now }
 {
-    let mut removed = 0;
+    let mut removed = 0u128;
     for stretch in stretches {
-        removed += stretch.1.saturating_sub(stretch.0);
+        removed += stretch.1.saturating_sub(stretch.0) as u128;
     }
     removed
 }
 
 // Returns whether the fragment has so many symbols at most.
-fn has_at_most(fragment_lines: &[String], most: usize) -> bool
+fn has_at_most(fragment_lines: &[String], most: u128) -> bool
     ensures { result ≡ nat_le (length (text_of fragment_lines.now)) most }
 {
     let Some((first, rest)) = fragment_lines.split_first() else {
         return true;
     };
-    let count = column_count(first.as_str());
+    let count = column_count(first.as_str()) as u128;
     if most < count {
         return false;
     }
     let mut left = most - count;
     for fragment_line in rest {
-        let count = column_count(fragment_line.as_str()) + 1;
+        let count = column_count(fragment_line.as_str()) as u128 + 1;
         if left < count {
             return false;
         }

@@ -10,10 +10,11 @@ use textarea_data::input::Input;
 
 impl TextArea<'_> {
     /// Makes the call that the key table with shortcuts has for the input, and returns whether the
-    /// text changed: true for a character or a line break, unless it is left out; the
-    /// result of the call for any other edit, undo and redo; false for `copy`, a move, a scroll, and an input that is not in the
-    /// table, which changes nothing. With Shift, a move or scroll extends the selection, or begins
-    /// one; without Shift it drops the selection. A move without a target changes nothing.
+    /// text changed: true for a character or a line break, unless it is left out; the result of the
+    /// call for any other edit, undo and redo; false for `copy`, a move, a scroll, and an input that
+    /// is not in the table, which changes nothing. With Shift, a move or scroll extends the
+    /// selection, or begins one; without Shift it drops the selection. A move without a target
+    /// changes nothing.
     pub fn input(&mut self, input: Input) -> Result<bool, AllocError>
         ensures returned { IfOk result
             (λ changed. changed ≡ action_flag self.old (asked_by input)) }

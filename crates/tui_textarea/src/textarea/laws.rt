@@ -80,9 +80,10 @@ pub fn edits_fit(area: &TextArea<'_>)
     area.document.edits_fit();
 }
 
-/// The law of copying, for every text area with selected text that can be edited: a `paste` after a `copy` returns
-/// true, and inserts exactly the selected symbols, at the cursor or at the end of the atomic range
-/// that strictly contains it.
+/// The law of copying, for every text area with selected text that can be edited: a `paste` after a
+/// `copy` inserts exactly the selected symbols, at the cursor or at the end of the atomic range that
+/// strictly contains it, and returns true. If there is a greatest number of characters, it inserts
+/// what fits of them beside the whole text, and returns whether that is something.
 pub fn copy_then_paste(area: &TextArea<'_>)
     ensures { is_editable area.now ≡ true → is_selected area.now.document ≡ true
         → PastesCopy area.now }

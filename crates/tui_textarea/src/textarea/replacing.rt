@@ -8,8 +8,8 @@ ghost use Rattle.tui_textarea.specs.Fitting.{fits_each};
 ghost use Rattle.tui_textarea.specs.Replacing.{match_at_cursor, match_replaced, match_replaced_by, matches_replaced, replaceable, with_range_replaced};
 
 use crate::matches::{match_at, replaceable_in};
-use crate::textarea::guards::symbol_count;
 use crate::textarea::TextArea;
+use crate::textarea::guards::symbol_count;
 use std::alloc::AllocError;
 use std::sync::Arc;
 use textarea_search::search::TextMatch;
@@ -39,7 +39,8 @@ impl TextArea<'_> {
         text: &str,
     ) -> Result<bool, AllocError>
         ensures replaced { IfOk result (λ replaced. replaced ≡ (is_editable self.old && replaces
-            self.old.document.text from to (admitted_between self.old from to (fragment_symbols (chars text.now))))) }
+            self.old.document.text from to
+            (admitted_between self.old from to (fragment_symbols (chars text.now))))) }
         ensures ok { OnOk result (self.new ≡ unless_read_only self.old (with_range_replaced self.old
             from to (admitted_between self.old from to (fragment_symbols (chars text.now))))) }
         ensures err { OnErr result (self.new ≡ self.old) }
@@ -59,7 +60,8 @@ impl TextArea<'_> {
         text: &str,
     ) -> Result<bool, AllocError>
         ensures replaced { IfOk result (λ replaced. replaced
-            ≡ replaces self.old.document.text from to (admitted_between self.old from to (fragment_symbols (chars text.now)))) }
+            ≡ replaces self.old.document.text from to
+            (admitted_between self.old from to (fragment_symbols (chars text.now)))) }
         ensures ok { OnOk result (self.new
             ≡ with_range_replaced self.old
             from to (admitted_between self.old from to (fragment_symbols (chars text.now)))) }
@@ -120,10 +122,10 @@ impl TextArea<'_> {
     /// before, so nothing can be undone. `set_max_histories` with twice the number of matches makes
     /// room for them; since it forgets all edits, it is best called before the first one.
     pub fn replace_all(&mut self, text: &str) -> Result<usize, AllocError>
-        ensures count { IfOk result (λ count. count ≡ (if bars_each self.old text then 0 else
+        ensures count { IfOk result (λ count. count ≡ (if bars_each self.old text.entry then 0 else
             length (replaceable self.old))) }
-        ensures ok { OnOk result (self.new ≡ (if bars_each self.old text then self.old else matches_replaced
-            self.old (admitted self.old (fragment_symbols (chars text.now))))) }
+        ensures ok { OnOk result (self.new ≡ (if bars_each self.old text.entry then self.old else
+            matches_replaced self.old (admitted self.old (fragment_symbols (chars text.now))))) }
         ensures err { OnErr result (self.new ≡ self.old) }
         ensures no_pattern { self.old.pattern ≡ None → IsOk result }
         ensures read_only { is_editable self.old ≡ false → IsOk result }
@@ -137,7 +139,8 @@ impl TextArea<'_> {
     // The same, whether the text area is read only or not.
     fn replace_all_unguarded(&mut self, text: &str) -> Result<usize, AllocError>
         ensures count { IfOk result (λ count. count ≡ (if fits_each self.old (replaceable self.old)
-            (admitted self.old (fragment_symbols (chars text.now))) then length (replaceable self.old) else 0)) }
+            (admitted self.old (fragment_symbols (chars text.now))) then
+            length (replaceable self.old) else 0)) }
         ensures ok { OnOk result (self.new ≡ (if fits_each self.old (replaceable self.old)
             (admitted self.old (fragment_symbols (chars text.now))) then matches_replaced self.old
             (admitted self.old (fragment_symbols (chars text.now))) else self.old)) }
@@ -178,7 +181,11 @@ impl TextArea<'_> {
             ≡ admitted_between self.now from to (fragment_symbols (chars text.now))) }
     {
         let fragment_lines = self.admitted_fragment(text)?;
-        let others = self.symbol_count() - self.stretch_length(from, to)?;
+        if self.settings.max_chars.is_none() {
+            return Ok(fragment_lines);
+        }
+        let removed = self.stretch_length(from, to)?;
+        let others = self.symbol_count() - removed;
         self.fitting(fragment_lines, others)
     }
 

@@ -76,8 +76,8 @@ impl TextArea<'_> {
         Ok(true)
     }
 
-    /// Yanks and removes the selected text, returns whether there was any, and drops the selection. A
-    /// text area that is read only keeps the text.
+    /// Yanks and removes the selected text, returns whether there was any, and drops the selection.
+    /// A text area that is read only keeps the text.
     pub fn cut(&mut self) -> Result<bool, AllocError>
         ensures removed { IfOk result (λ removed. removed ≡ is_selected self.old.document) }
         ensures ok { OnOk result (self.new ≡ (if self.old.settings.read_only then selection_copied

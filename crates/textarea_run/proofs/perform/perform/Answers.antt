@@ -1,4 +1,5 @@
-use Rattle.std.proofs.Common.{◌≡◌, OnErr, OnOk, Result, Ok, Err, refl}
+use Rattle.std.proofs.Common.{◌≡◌, OnErr, OnOk, Result, Ok, Err, false, refl}
+use Rattle.textarea_calls.specs.Topics.{draws}
 use Rattle.textarea_calls.specs.declared.call.Call.{Call}
 use Rattle.textarea_calls.specs.declared.call.Call.TheVariants.{Render}
 use Rattle.textarea_run.proofs.perform.perform.Goals as goal
@@ -17,6 +18,14 @@ buffer_left : {T E : Type 0} (result : Result T E) (made : Call) (buffer : Buffe
 buffer_left (Ok value) made buffer other = tt
 buffer_left (Err error) (Render area) buffer other = absurd (other area refl)
 buffer_left (Err error) made buffer other = refl
+
+-- a call of another kind draws nothing
+undrawn : (made : Call) → ((area : Rect) → made ≡ Render area → ⊥) → draws made ≡ false
+undrawn (Render area) other = absurd (other area refl)
+undrawn made other = refl
+
+pub make-requires : goal.make-requires
+make-requires c = record { can = c.requires; undrawn = undrawn c.args.call c.in_default.not-Render }
 
 pub returns-in_default-clause-displayed : goal.returns-in_default-clause-displayed
 returns-in_default-clause-displayed c =

@@ -9,5 +9,5 @@ returns c = record {
   removed = character_removed;
   cleared = text_sent;
   out_of_memory = typing_failed;
-  written = λ state line h. ap fragment_text h.text ∙ written_characters line;
+  written = λ state maximum line h. ap fragment_text h.text ∙ written_characters line;
 }

@@ -1,19 +1,17 @@
-use Rattle.std.proofs.Common.{◌≡◌, ◌&&◌, ◌++◌, [], ◌∷◌, List, false, refl, ap, true, ◌∙◌, subst, sym}
+use Rattle.std.proofs.Common.{◌≡◌, ◌++◌, [], ◌∷◌, List, refl, ap, ◌∙◌, subst, sym}
 use Rattle.std.specs.Str.{chars}
-use Rattle.std.proofs.lemmas.Bool.{and_parts, cond-false, not-false, not-true}
+use Rattle.std.proofs.lemmas.Bool.{cond-false}
 use Rattle.textarea_data.specs.declared.range.AtomicRange.{AtomicRange}
 use Rattle.textarea_calls.specs.declared.call.Call.TheVariants as call
 use Rattle.tui_textarea.specs.Calls.{result_of_call}
 use Rattle.textarea_text.specs.Fragment.{fragment_symbols}
 use Rattle.textarea_text.specs.Splice.{CanApply, Splice}
-use Rattle.textarea_text.specs.Text.{Symbol}
-use Rattle.tui_textarea.specs.Edits.{inserts_text, str_inserted}
-use Rattle.tui_textarea.specs.Guards.{admitted, is_editable}
+use Rattle.tui_textarea.specs.Edits.{str_inserted}
+use Rattle.tui_textarea.specs.Guards.{admitted_over_selection}
 use Rattle.tui_textarea.specs.Ranges.{ranges_accepted}
 use Rattle.tui_textarea.specs.Splices.{str_splices}
 use Rattle.gallery.specs.Mentions.{AreWhole}
-use Rattle.tui_textarea.proofs.Spaced.{admitted_characters}
-use Rattle.gallery.proofs.Tokens.{covers_mention, name_symbols, whole_if_set, whole_over, whole_with}
+use Rattle.gallery.proofs.Tokens.{covers_mention, name_admitted, takes_whole_names, whole_if_set, whole_over, whole_with}
 use Rattle.gallery.proofs.program.mentions.mention.Goals as goal
 
 pub returns-in_err-insert_str : goal.returns-in_err-insert_str
@@ -21,13 +19,6 @@ returns-in_err-insert_str c whole =
     let old = c.args.area.now in
     let new = c.insert_str.new.self in
     whole_over old new (c.ranges_cover_no_more.ensures.out_of_memory old new (call.InsertStr c.args.name) c.is_sound.ensures c.in_err-insert_str.ensures.err) whole
-
-pub returns-then-not-inserted : goal.returns-then-not-inserted
-returns-then-not-inserted c whole =
-    let old = c.args.area.now in
-    let made = call.InsertStr c.args.name in
-    whole_over old c.insert_str.new.self
-    (c.ranges_cover_no_more.ensures.made old c.insert_str.new.self made (result_of_call old made) c.is_sound.ensures (λ sets. sets) refl c.in_ok-insert_str.ensures.ok) whole
 
 pub returns-in_err-ranges : goal.returns-in_err-ranges
 returns-in_err-ranges c whole =
@@ -51,16 +42,15 @@ returns c whole =
     let sound = c.is_sound.ensures in
     let mid_whole =
     whole_over old mid (c.ranges_cover_no_more.ensures.made old mid made (result_of_call old made) sound (λ sets. sets) refl c.in_ok-insert_str.ensures.ok) whole in
-    let symbols = fragment_symbols (chars c.args.name.now) in
-    let inserts : (is_editable old && inserts_text old symbols) ≡ true = sym c.in_ok-insert_str.ensures.inserted ∙ not-false c.in_ok-insert_str.inserted c.if-not-inserted.false in
-    let editable : old.settings.read_only ≡ false = not-true old.settings.read_only (and_parts (is_editable old) (inserts_text old symbols) inserts).0 in
-    let same : admitted old symbols ≡ symbols =
-    subst (λ (some : List Symbol). admitted old some ≡ some) (sym (name_symbols c.args.name.now c.requires)) (admitted_characters old c.args.name.now) in
+    let name = c.args.name.now in
+    let symbols = fragment_symbols (chars name) in
+    let takes = takes_whole_names old (sym c.takes_whole_names.ensures ∙ c.if-not-takes_whole_names.false) in
+    let same = name_admitted old name c.requires takes in
     let place = c.cursor-row.result in
     let range : AtomicRange = record { row = place.0; start_col = c.saturating_sub-start_col.result; end_col = place.1 } in
     let named =
-    covers_mention old mid c.args.name.now range c.requires (c.in_ok-insert_str.ensures.ok ∙ cond-false old.settings.read_only old (str_inserted old (admitted old symbols)) editable ∙ ap (str_inserted old) same)
-    (subst (λ (splices : List Splice). CanApply old.document.text splices) (cond-false old.settings.read_only [] (str_splices old (admitted old symbols)) editable ∙ ap (str_splices old) same) (c.splices_split_no_range.ensures.fit old made sound))
+    covers_mention old mid name range c.requires (c.in_ok-insert_str.ensures.ok ∙ cond-false old.settings.read_only old (str_inserted old (admitted_over_selection old symbols)) takes.editable ∙ ap (str_inserted old) same)
+    (subst (λ (splices : List Splice). CanApply old.document.text splices) (cond-false old.settings.read_only [] (str_splices old (admitted_over_selection old symbols)) takes.editable ∙ ap (str_splices old) same) (c.splices_split_no_range.ensures.fit old made sound))
     (ap (λ p. p.0) c.cursor-row.ensures.value) (ap (λ p. p.1) c.cursor-row.ensures.value) c.saturating_sub-start_col.ensures in
     let items : c.push.new.self.items ≡ mid.document.ranges ++ range ∷ [] =
     c.in_ok-push.ensures.items ∙ ap (λ (ranges : List AtomicRange). ranges ++ range ∷ []) (c.in_ok-ranges.ensures.items ∙ c.atomic_ranges.ensures.value) in
