@@ -62,7 +62,10 @@ given_back count document ranges h is =
     ∙ ap (λ (o : Option (List AtomicRange)). ranges_or o moved) is
 
 pub group_given_back : (document : DocumentState) (ranges : List AtomicRange) → IsSound document → ranges_before_group document ≡ Some ranges → (after_undo document).ranges ≡ ranges
-group_given_back document ranges h is = given_back (newest_group document.log - 1) document ranges (sound_inside document h) is
+group_given_back document ranges h is =
+    let count : newest_group document.log ≡ suc (newest_group document.log - 1) = omega arith in
+    ap (λ (n : ℕ). (times n edit_undone document).ranges) count
+    ∙ given_back (newest_group document.log - 1) document ranges (sound_inside document h) is
 
 -- ---- an edit
 
