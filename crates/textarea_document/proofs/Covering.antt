@@ -1,5 +1,5 @@
 -- What ranges cover after an edit, an undo or a redo, ranges cover before.
-use Rattle.std.proofs.Common.{◌≡◌, ◌∙◌, ℕ, zero, suc, Bool, List, [], ◌∷◌, ◌++◌, length, map, ◌⊎◌, inl, inr, Option, Some, None, sym, ap, refl, subst, arith, suc-le-suc}
+use Rattle.std.proofs.Common.{◌≡◌, ◌∙◌, ℕ, zero, suc, Bool, List, [], ◌∷◌, map, inl, inr, Option, Some, None, sym, ap, refl, subst, arith, suc-le-suc}
 use Rattle.std.specs.Prelude.{Contains}
 use Rattle.std.proofs.lemmas.List.Elements.{All-contains, Contains-append_cases, Contains-append_left, Contains-append_right}
 use Rattle.textarea_ranges.specs.Moved.{covered_characters}

@@ -1,5 +1,5 @@
 -- The remembered ranges as their struct stores them.
-use Rattle.std.specs.Prelude.{◌<◌, List, Option, None, Some, Vec, map, option_map}
+use Rattle.std.specs.Prelude.{◌<◌, List, Option, Vec, map, option_map}
 use Rattle.std.specs.declared.alloc.Global.{Global}
 use Rattle.std.specs.VecDeque.{deque_capacity, deque_len}
 use Rattle.textarea_data.specs.declared.range.AtomicRange.{AtomicRange}

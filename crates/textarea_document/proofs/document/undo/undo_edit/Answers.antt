@@ -1,6 +1,6 @@
 use Rattle.std.proofs.Common.{◌≡◌, ◌∙◌, List, Option, None, sym, ap, subst}
 use Rattle.textarea_document.specs.ChangeLog.{changes_of}
-use Rattle.textarea_document.specs.RangeHistory.{past_of, ranges_of}
+use Rattle.textarea_document.specs.RangeHistory.{past_of}
 use Rattle.textarea_document.specs.Prelude.{AtomicRange, DocumentState, Fits, Splice, inverse, document_of, moved_ranges, ranges_before_newest, ranges_or, undone_log, after_undo_by}
 use Rattle.textarea_document.proofs.Sounds.{changed_is, newest_fits}
 use Rattle.textarea_document.proofs.document.undo.undo_edit.Goals as goal

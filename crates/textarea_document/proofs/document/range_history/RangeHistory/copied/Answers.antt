@@ -1,7 +1,7 @@
 use Rattle.std.proofs.Common.{◌≡◌, ◌∙◌, List, [], ◌∷◌, Vec, ap, map, refl}
 use Rattle.std.specs.List.{AllZip, each_same}
 use Rattle.std.specs.declared.alloc.Global.{Global}
-use Rattle.textarea_document.specs.Prelude.{AtomicRange, PastRanges}
+use Rattle.textarea_document.specs.Prelude.{AtomicRange}
 use Rattle.textarea_document.proofs.document.range_history.RangeHistory.copied.Goals as goal
 
 -- a copy of each list has its ranges
