@@ -7,7 +7,8 @@ use Rattle.std.proofs.lemmas.Str.{len_utf8_bounds}
 use Rattle.textarea_text.specs.Place.{changed}
 use Rattle.textarea_document.specs.Changes.{changed_by, column_from, width_in}
 use Rattle.textarea_document.specs.Prelude.{Symbol, joined, lines, Place, IsPlace, end, index_of, line_of, Fits, Splice, applied, inverse, times, Log, undone_log, redone_log, newest, next}
-use Rattle.textarea_document.specs.Prelude.{ChangeUnit, Characters, Bytes, Utf16, ChangeView, LoggedChanges, ChangesLead, change_of, changed_by_all, line_changes, place_from_unit, place_in_unit, splice_changes, unit_count, whole_change, with_more}
+use Rattle.textarea_document.specs.Prelude.{ChangeUnit, Characters, Bytes, Utf16, ChangeView, LoggedChanges, ChangesLead, change_of, changed_by_all, line_changes, place_from_unit, place_in_unit}
+use Rattle.textarea_document.specs.Prelude.{splice_changes, unit_count, whole_change, with_more}
 use Rattle.textarea_document.specs.Prelude.{AtomicRange, PastRanges, DocumentState, after_change, after_redo_by, after_undo_by, changes_taken, edit_redone, edit_undone, lines_replaced, with_changes_after, IsSoundInside}
 use Rattle.textarea_text.proofs.TextPlaces.{IsPlace-end, index_of-end, joined-lines}
 use Rattle.textarea_text.proofs.StringRows.{changed_by_none, occurs_until}
@@ -98,7 +99,8 @@ none_once : (unit : Option ChangeUnit) (text : List Symbol) (splice : Splice) �
 none_once None text splice = refl
 none_once (Some unit) text splice = tt
 
-pub change_leads : (document : DocumentState) (splice : Splice) (log : Log) (ranges : List AtomicRange) (past : PastRanges) → Fits document.text splice → ChangesLead document (record (after_change document splice log) { ranges = ranges; past_ranges = past })
+pub change_leads : (document : DocumentState) (splice : Splice) (log : Log) (ranges : List AtomicRange) (past : PastRanges) → Fits document.text splice →
+    ChangesLead document (record (after_change document splice log) { ranges = ranges; past_ranges = past })
 change_leads document splice log ranges past fits = record {
   more = splice_changes document.changes.unit document.text splice;
   changes = refl;

@@ -6,7 +6,8 @@ use Rattle.textarea_ranges.specs.Moved.{covered_characters}
 use Rattle.textarea_ranges.proofs.Moving.{covers_the_same}
 use Rattle.textarea_document.specs.Covered.{CoversNoMore, covered, covered_before, covered_in, covered_past}
 use Rattle.textarea_document.specs.Prelude.{AllBefore, AreValid, AtomicRange, DocumentState, Fits, IsRangeOfLine, IsSound, IsSoundInside, IsValidList, Splice, Symbol, applied, inverse, lines, moved_ranges}
-use Rattle.textarea_document.specs.Prelude.{after_edit, after_redo, after_redo_by, after_undo, after_undo_by, edit_redone, edit_undone, newest, newest_group, next, next_group, ranges_before_newest, ranges_before_next, ranges_or, texts_before, times}
+use Rattle.textarea_document.specs.Prelude.{after_edit, after_redo, after_redo_by, after_undo, after_undo_by, edit_redone, edit_undone, newest, newest_group, next, next_group, ranges_before_newest}
+use Rattle.textarea_document.specs.Prelude.{ranges_before_next, ranges_or, texts_before, times}
 use Rattle.textarea_document.proofs.PastRanges.{edited_has, newest_has, next_has, texts_before-redone, texts_before-undone}
 use Rattle.textarea_document.proofs.RangesOverSplices.{from_moved}
 use Rattle.textarea_document.proofs.Sounds.{inside_redone, inside_times, inside_undone, logged_sound, newest_fits, next_fits, next_ranges_valid, sound_inside}

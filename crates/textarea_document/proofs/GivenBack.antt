@@ -5,7 +5,8 @@ use Rattle.std.proofs.lemmas.List.{length-reverse}
 use Rattle.std.proofs.lemmas.Option.{slice_get_within}
 use Rattle.textarea_history.proofs.LogLaws.{newest_some}
 use Rattle.textarea_document.specs.DocumentLaw.{RemembersBefore, ranges_before_group}
-use Rattle.textarea_document.specs.Prelude.{AllBefore, AtomicRange, DocumentState, Fits, IsSound, IsSoundInside, IsValidList, Log, PastRanges, Splice, Symbol, after_edit, after_undo, after_undo_by, applied, appended_log, edit_undone, group_forgotten, inverse, is_outgrown, joined_log, joins}
+use Rattle.textarea_document.specs.Prelude.{AllBefore, AtomicRange, DocumentState, Fits, IsSound, IsSoundInside, IsValidList, Log, PastRanges, Splice, Symbol, after_edit, after_undo, after_undo_by}
+use Rattle.textarea_document.specs.Prelude.{applied, appended_log, edit_undone, group_forgotten, inverse, is_outgrown, joined_log, joins}
 use Rattle.textarea_document.specs.Prelude.{moved_ranges, newest, newest_group, ranges_or, ranges_to_remember, recorded, texts_ahead, texts_back, texts_before, times, with_newest}
 use Rattle.textarea_document.proofs.Sounds.{sound_edited, sound_inside}
 use Rattle.textarea_document.proofs.UndoGroups.{are_undone}

@@ -1,6 +1,7 @@
 -- Each step preserves the invariant of documents.
 use Rattle.std.proofs.Common.{◌≡◌, ℕ, zero, suc, Bool, true, false, cond, List, [], length, Option, Some, None, Result, Ok, Err, sym, ap, refl, ◌∙◌, subst, arith}
-use Rattle.textarea_document.specs.Prelude.{ArePastRanges, IsValidList, PastRanges, history_forgotten, no_past_ranges, past_ranges_set, undo_ranges_set, past_ranges_after, ranges_before_newest, ranges_before_next, ranges_or, texts_before, LoggedChanges, with_splice, group_begun, group_ended, is_open}
+use Rattle.textarea_document.specs.Prelude.{ArePastRanges, IsValidList, PastRanges, history_forgotten, no_past_ranges, past_ranges_set, undo_ranges_set, past_ranges_after, ranges_before_newest}
+use Rattle.textarea_document.specs.Prelude.{ranges_before_next, ranges_or, texts_before, LoggedChanges, with_splice, group_begun, group_ended, is_open}
 use Rattle.textarea_history.specs.declared.history.groups.Group.{Group}
 use Rattle.textarea_history.specs.declared.history.groups.Group.TheVariants.{Closed, Empty}
 use Rattle.textarea_document.specs.Prelude.{IfSome, OnErr, OnOk, Symbol, lines, Place, IsPlace, Splice, Fits, applied, inverse, place_after, Log, empty_log, redone_log, newest}
@@ -63,7 +64,8 @@ sound_edited document splice typed now h fits =
     (recorded_whole (logged document) splice typed now (logged_sound document h) fits h.whole)
 
 -- a document's parts after the change of a splice, with this log, make the document after it
-pub changed_is : (text_layout new : TextAndLayout) (cursor ahead : Place) (anchor : Option Place) (ranges stored : List AtomicRange) (log after left : Log) (changes made : LoggedChanges) (past : PastRanges) (change splice : Splice) → change ≡ splice →
+pub changed_is : (text_layout new : TextAndLayout) (cursor ahead : Place) (anchor : Option Place) (ranges stored : List AtomicRange) (log after left : Log) (changes made : LoggedChanges) (past : PastRanges)
+    (change splice : Splice) → change ≡ splice →
     new ≡ applied_to text_layout change → ahead ≡ place_after change → stored ≡ moved_ranges ranges change → after ≡ left → made ≡ with_splice changes text_layout.text change →
     document_of new ahead None stored after made past ≡ after_change (document_of text_layout cursor anchor ranges log changes past) splice left
 changed_is text_layout new cursor ahead anchor ranges stored log after left changes made past change splice is layout_is cursor_is stored_is log_is made_is =
@@ -214,7 +216,8 @@ inside_times step one (suc count) document h = one (times count step document) (
 pub sound_fresh : (text : List Symbol) (settings : LayoutSettings) (count : ℕ) (cursor : Place) (maximum : ℕ) → IsPlace text cursor → IsSound (fresh_document text settings count cursor maximum)
 sound_fresh text settings count cursor maximum h = record { cursor = h; anchor = tt; ranges = valid_none (lines text); in_order = refl; undo = tt; redo = tt; bounded = omega arith; marks = refl; whole = refl; past = none_past text [] [] false }
 
-pub fresh_is : (text : List Symbol) (settings : LayoutSettings) (count : ℕ) (cursor : Place) (maximum : ℕ) (text_layout : TextAndLayout) (stored : List AtomicRange) (log : Log) (changes : LoggedChanges) (past : PastRanges) →
+pub fresh_is : (text : List Symbol) (settings : LayoutSettings) (count : ℕ) (cursor : Place) (maximum : ℕ) (text_layout : TextAndLayout) (stored : List AtomicRange) (log : Log)
+    (changes : LoggedChanges) (past : PastRanges) →
     text_layout ≡ layout_from_scratch settings count text → stored ≡ [] → log ≡ empty_log maximum →
     document_of text_layout cursor None stored log changes past ≡ record (fresh_document text settings count cursor maximum) { changes = changes; past_ranges = past }
 fresh_is text settings count cursor maximum text_layout stored log changes past layout_is stored_is log_is =
@@ -254,7 +257,8 @@ layout_with_settings document settings =
     ap (λ (t : List Symbol). record { text = t; layout = after.layout }) (text_stays (text_and_layout document) settings)
 
 -- a document whose lines have other settings
-pub settings_put : (text_layout new : TextAndLayout) (settings : LayoutSettings) (cursor : Place) (anchor : Option Place) (ranges : List AtomicRange) (log : Log) (changes : LoggedChanges) (past : PastRanges) →
+pub settings_put : (text_layout new : TextAndLayout) (settings : LayoutSettings) (cursor : Place) (anchor : Option Place) (ranges : List AtomicRange) (log : Log)
+    (changes : LoggedChanges) (past : PastRanges) →
     new ≡ with_settings text_layout settings → document_of new cursor anchor ranges log changes past ≡ with_layout_settings (document_of text_layout cursor anchor ranges log changes past) settings
 settings_put text_layout new settings cursor anchor ranges log changes past is =
     ap (λ (l : TextAndLayout). document_of l cursor anchor ranges log changes past) (is ∙ layout_with_settings (document_of text_layout cursor anchor ranges log changes past) settings)

@@ -40,7 +40,13 @@ follows_as old new other splices same h = (
 )
 
 pub reckoning_of : EditsGo → Reckoning RangesStayWhole
-reckoning_of edits = record { none = still; same = follows_as; two = ranges_stay_on; one = λ document splice typed now sound fits whole. edits document splice typed now fits whole; forgotten = λ old new same none. stays old new (ap (λ (s : Visible). s.0.text) same) (ap (λ (s : Visible). s.1) same) }
+reckoning_of edits = record {
+  none = still;
+  same = follows_as;
+  two = ranges_stay_on;
+  one = λ document splice typed now sound fits whole. edits document splice typed now fits whole;
+  forgotten = λ old new same none. stays old new (ap (λ (s : Visible). s.0.text) same) (ap (λ (s : Visible). s.1) same);
+}
 
 -- ---- what leaves text and ranges unchanged
 

@@ -9,7 +9,8 @@ use Rattle.textarea_document.proofs.document.Document.edit.Goals.{After-remember
 -- the remembered ranges are those after the edit
 remembered : (c : After-remember) →
     past_of c.remember.new.self ≡ past_ranges_after
-    (document_of c.self.inside.text_layout c.self.inside.cursor c.self.inside.anchor c.self.inside.ranges.items c.self.inside.history.log (changes_of c.self.inside.changes) (past_of c.self.inside.range_history)) c.args.edit.splice c.args.typed (as_nanos c.args.now)
+    (document_of c.self.inside.text_layout c.self.inside.cursor c.self.inside.anchor c.self.inside.ranges.items c.self.inside.history.log
+    (changes_of c.self.inside.changes) (past_of c.self.inside.range_history)) c.args.edit.splice c.args.typed (as_nanos c.args.now)
 remembered c =
     let inside = c.self.inside in
     let splice = c.args.edit.splice in
@@ -29,7 +30,8 @@ remembered c =
 -- the resulting document is the one after the edit
 left : (c : After-remember) →
     document_of c.make_change.new.text_layout c.in_ok-cursor.cursor None c.make_change.new.ranges.items c.put.new.self.log (changes_of c.make_change.new.changes) (past_of c.remember.new.self) ≡ after_edit
-    (document_of c.self.inside.text_layout c.self.inside.cursor c.self.inside.anchor c.self.inside.ranges.items c.self.inside.history.log (changes_of c.self.inside.changes) (past_of c.self.inside.range_history)) c.args.edit.splice c.args.typed (as_nanos c.args.now)
+    (document_of c.self.inside.text_layout c.self.inside.cursor c.self.inside.anchor c.self.inside.ranges.items c.self.inside.history.log
+    (changes_of c.self.inside.changes) (past_of c.self.inside.range_history)) c.args.edit.splice c.args.typed (as_nanos c.args.now)
 left c =
     let inside = c.self.inside in
     let splice = c.args.edit.splice in

@@ -8,6 +8,7 @@ use Rattle.textarea_document.proofs.document.Document.store_ranges.Goals as goal
 pub invariant_of-self : goal.invariant_of-self
 invariant_of-self c =
     let text = c.self.inside.text_layout.text in
+    let log = c.self.inside.history.log in
     let supplied = c.args.ranges.items in
     let valid : AreValid (lines text) supplied = subst (λ (s : DocumentState). AreValid (lines s.text) supplied) (sym c.self.view_is) c.requires.valid in
     let first : AreValid (lines text) c.as_slice-stored.result.now = subst (AreValid (lines text)) (sym c.as_slice-stored.ensures.value) valid in
@@ -24,7 +25,7 @@ invariant_of-self c =
       bounded = old.bounded;
       marks = old.marks;
       whole = old.whole;
-      past = subst (ArePastRanges (texts_before text c.self.inside.history.log.done c.self.inside.history.log.undone)) (sym c.forget.ensures) (none_past text c.self.inside.history.log.done c.self.inside.history.log.undone (past_of c.self.inside.range_history).on);
+      past = subst (ArePastRanges (texts_before text log.done log.undone)) (sym c.forget.ensures) (none_past text log.done log.undone (past_of c.self.inside.range_history).on);
     }
 
 pub move_out-cursor-requires : goal.move_out-cursor-requires
