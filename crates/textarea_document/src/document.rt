@@ -224,7 +224,8 @@ impl Document {
         self.cursor = cursor;
         let undone = self.history.undone_len();
         self.history.put(edit, typed, now);
-        self.range_history.remember(kept, undone, self.history.done_len());
+        self.range_history
+            .remember(kept, undone, self.history.done_len());
         self.anchor = None;
         Ok(())
     }
