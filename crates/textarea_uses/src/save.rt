@@ -51,14 +51,15 @@ impl SavedText {
         Ok(())
     }
 
-    /// Undoes edits until the text is the saved one, and returns whether it is.
+    /// Undoes edits until the text is the saved one, and returns whether it is. For that a text that
+    /// was read only can be edited again.
     pub fn revert(&mut self) -> Result<bool, AllocError>
         ensures reached { IfOk result (λ reached. IsTrue reached ↔
             ReachesBack self.old.area.document (characters_of self.old.saved)) }
         ensures reverted { IfOk result (λ reached. IsTrue reached →
             file_text self.new.area ≡ characters_of self.old.saved) }
     {
-        self.area.set_read_only(false); // else nothing can be undone
+        self.area.set_read_only(false);
         undo_to(&mut self.area, self.saved.as_str())
     }
 }

@@ -28,7 +28,7 @@ fn takes_whole_names(area: &TextArea<'_>) -> bool
     !area.read_only() && area.max_chars().is_none()
 }
 
-/// Inserts a name at the cursor as a mention, where names are inserted whole. All mentions stay so.
+/// Inserts a name at the cursor as a mention, unless it could be cut. All mentions stay whole.
 pub fn mention(
     area: &mut TextArea<'_>,
     alloc: Global,
