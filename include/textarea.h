@@ -144,6 +144,12 @@ enum {
     TA_CURSOR_HIDDEN = 1,
 };
 
+/** `CursorUnit`. */
+enum {
+    TA_CURSOR_UNIT_CHARACTER = 0,
+    TA_CURSOR_UNIT_CLUSTER = 1,
+};
+
 /** `Color`. */
 enum {
     TA_COLOR_NONE = 0,
@@ -952,7 +958,7 @@ uint32_t ta_atomic_range_at_cursor(ta_handle_t *handle, uint32_t direction, ta_r
  * empty handle. */
 uint32_t ta_delete_atomic_range_at_cursor(ta_handle_t *handle, uint32_t direction, ta_range_t *range);
 
-/* Options of tabs, and the greatest number of characters. */
+/* Options of tabs, the greatest number of characters, and what the cursor goes over. */
 
 /** Sets the distance of tab stops, in columns; at 0 a tab inserts nothing.
  *
@@ -1051,6 +1057,21 @@ uint32_t ta_clear_max_chars(ta_handle_t *handle);
  *
  * Statuses: ok, false (there is none: any number fits), empty handle. */
 uint32_t ta_max_chars(ta_handle_t *handle, size_t *maximum);
+
+/** Sets what the cursor goes over as a whole, beside atomic ranges: a character
+ * (`TA_CURSOR_UNIT_CHARACTER`, as at first) or an extended grapheme cluster
+ * (`TA_CURSOR_UNIT_CLUSTER`), such as a letter with its accents. With clusters no call leaves the
+ * cursor or the selection's beginning inside one, this call included. What is removed is whole
+ * clusters of the text before it, but for `ta_delete_str`; what stays may form others, as flags do.
+ * A match at an end of which no cluster begins or ends isn't found, counted or replaced.
+ *
+ * Statuses: ok, invalid argument (there is no such unit), empty handle. */
+uint32_t ta_set_cursor_unit(ta_handle_t *handle, uint32_t unit);
+
+/** Returns what the cursor goes over as a whole.
+ *
+ * Statuses: ok, empty handle. */
+uint32_t ta_cursor_unit(ta_handle_t *handle, uint32_t *unit);
 
 /* Wrapping, line numbers, alignment and measuring. */
 

@@ -192,6 +192,17 @@ static void max_chars(void) {
     ta_free(&area);
 }
 
+static void cursor_unit(void) {
+    ta_handle_t area = area_of("e\xcc\x81x");
+    uint32_t unit = 9;
+    CHECK(ta_cursor_unit(&area, &unit) == TA_OK && unit == TA_CURSOR_UNIT_CHARACTER);
+    CHECK(ta_set_cursor_unit(&area, 2) == TA_INVALID_ARGUMENT);
+    CHECK(ta_set_cursor_unit(&area, TA_CURSOR_UNIT_CLUSTER) == TA_OK);
+    CHECK(ta_cursor_unit(&area, &unit) == TA_OK && unit == TA_CURSOR_UNIT_CLUSTER);
+    CHECK(ta_delete_next_char(&area) == TA_OK && has_lines(&area, "x\n"));
+    ta_free(&area);
+}
+
 static void history(void) {
     ta_handle_t area = area_of("");
     size_t most = 0;
@@ -435,6 +446,7 @@ int main(void) {
     read_only();
     single_line();
     max_chars();
+    cursor_unit();
     history();
     search();
     ranges();

@@ -78,6 +78,7 @@ def command(r):
         lambda: f"hit {r.randrange(30)} {r.randrange(12)}",
         lambda: f"set_wrap_mode {pick(['None', 'Word', 'Glyph', 'WordOrGlyph'])}",
         lambda: f"set_mask_char {pick(CHARS[:2] + ['•'])}",
+        lambda: f"set_cursor_unit {pick(['Character', 'Cluster'])}",
         lambda: max_chars(r),
         lambda: f"line_numbers {pick(['true', 'false'])}",
         lambda: f"now {r.randrange(5000)}",

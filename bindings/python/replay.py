@@ -10,7 +10,7 @@ import sys
 
 from script_calls import METHODS, SETTERS
 from textarea import (
-    Area, ChangeUnit, Input, Key, Move, Page, PatternRejected, Range, RangesRejected, Style, TextArea,
+    Area, ChangeUnit, CursorUnit, Input, Key, Move, Page, PatternRejected, Range, RangesRejected, Style, TextArea,
     WrapMode,
 )
 
@@ -141,6 +141,8 @@ class Replay:
             area.wrap_mode = WrapMode[constant(words)]
         elif name == "set_mask_char":
             area.mask_char = unescaped(words)
+        elif name == "set_cursor_unit":
+            area.cursor_unit = CursorUnit[constant(words)]
         elif name == "set_max_chars":
             area.max_chars = None if words == "None" else int(words)
         elif name == "clear_mask_char":

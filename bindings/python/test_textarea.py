@@ -10,7 +10,7 @@ import unittest
 import textarea
 from script_calls import STYLES
 from textarea import (
-    Alignment, Area, Block, Borders, ChangeUnit, Color, CursorRenderMode, Input, Key, Line, Modifier,
+    Alignment, Area, Block, Borders, ChangeUnit, Color, CursorRenderMode, CursorUnit, Input, Key, Line, Modifier,
     Move, Padding, Page, PatternRejected, Range, RangesRejected, Reason, Side, Span, Style, TextArea,
     WrapMode, in_curses,
 )
@@ -123,6 +123,18 @@ class Calls(unittest.TestCase):
         area.max_chars = None
         area.insert_char("y")
         self.assertEqual((area.text, area.max_chars), ("a\u0301xyone", None))
+
+    def test_cursor_unit(self):
+        area = TextArea("e\u0301x")
+        self.assertEqual(area.cursor_unit, CursorUnit.CHARACTER)
+        area.move_cursor(Move.FORWARD)
+        self.assertEqual(area.cursor, (0, 1))
+        area.cursor_unit = CursorUnit.CLUSTER
+        self.assertEqual((area.cursor, area.cursor_unit), ((0, 2), CursorUnit.CLUSTER))
+        area.search_pattern = "e"
+        self.assertEqual((area.match_count, area.replace_all("a")), (0, 0))
+        self.assertTrue(area.delete_char())
+        self.assertEqual(area.text, "x")
 
     def test_undo_groups(self):
         area = TextArea("one")

@@ -12,6 +12,7 @@ READINGS = {
     "u8": ("byte_number", "byte_number", "N", "a decimal number"),
     "bool": ("truth", "truth", "B", "`true` or `false`"),
     "WrapMode": ("mode_named", "mode_named", "M", "`None`, `Word`, `Glyph` or `WordOrGlyph`"),
+    "CursorUnit": ("cursor_unit_named", "cursor_unit_named", "U", "`Character` or `Cluster`"),
     "Option<ChangeUnit>": ("change_unit_named", "change_unit_named", "U", "`Characters`, `Bytes`, `Utf16`, or `None`"),
     "CursorMove": ("move_named", "move_named", "M", "the name of a move but `Jump`"),
     "(usize, usize)": ("two_numbers", "two_numbers", "R C", "a row and a column"),

@@ -14,6 +14,7 @@ ANSWERS = {
     "Option<Style>": "StyleIfVisible",
     "Option<char>": "Character",
     "CursorRenderMode": "CursorRenderMode",
+    "CursorUnit": "CursorUnit",
     "Alignment": "Alignment",
     "(usize, usize)": "Cursor",
     "Option<(usize, usize)>": "Place",

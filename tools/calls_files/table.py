@@ -11,7 +11,7 @@ NOTE = f"Written by tools/calls from {TABLE}."
 MODULES = {
     "std::time": "Duration",
     "textarea_change": "ChangeUnit",
-    "textarea_data::cursor": "CursorMove CursorRenderMode",
+    "textarea_data::cursor": "CursorMove CursorRenderMode CursorUnit",
     "textarea_data::input": "Input",
     "textarea_data::range": "AtomicCursorBias AtomicDeleteDirection AtomicRange",
     "textarea_data::scroll": "Scrolling",

@@ -30,7 +30,7 @@ from ._data import (
     RangesRejected, Span, Style, Viewport,
 )
 from ._enums import (
-    Alignment, Borders, ChangeUnit, CursorRenderMode, Key, Modifier, Move, Page, Reason, Side,
+    Alignment, Borders, ChangeUnit, CursorRenderMode, CursorUnit, Key, Modifier, Move, Page, Reason, Side,
     WrapMode,
 )
 
@@ -38,7 +38,7 @@ __version__ = "0.15.0"
 __all__ = [
     "TextArea", "Input", "Key", "Move", "Page", "Side", "Range", "Reason", "RangesRejected",
     "PatternRejected", "WrapMode", "Alignment", "Measure", "Viewport", "Area", "Cell",
-    "CursorRenderMode", "Style", "Color", "Modifier", "Span", "Line", "Block", "Borders", "Padding",
+    "CursorRenderMode", "CursorUnit", "Style", "Color", "Modifier", "Span", "Line", "Block", "Borders", "Padding",
     "Change", "ChangeUnit",
 ]
 

@@ -13,7 +13,7 @@ from ._data import (
     Area, Block, Cell, Change, Color, Input, Line, Measure, Padding, Range, Span, Style, Viewport,
 )
 from ._enums import (
-    Alignment, Borders, ChangeUnit, CursorRenderMode, Modifier, Move, Page, Side, WrapMode,
+    Alignment, Borders, ChangeUnit, CursorRenderMode, CursorUnit, Modifier, Move, Page, Side, WrapMode,
 )
 from ._library import lib
 
@@ -326,6 +326,20 @@ class TextArea(Calls):
             self._call(lib.ta_clear_max_chars)
         else:
             self._call(lib.ta_set_max_chars, maximum)
+
+    @property
+    def cursor_unit(self) -> CursorUnit:
+        """What the cursor goes over as a whole, beside atomic ranges: `CHARACTER`, as at first, or
+        `CLUSTER`, an extended grapheme cluster, such as a letter with its accents. With clusters no
+        call leaves the cursor or the selection's beginning inside one, the setting included. What is
+        removed is whole clusters of the text before it, but for `delete_str`; what stays may form
+        others, as flags do. A match at an end of which no cluster begins or ends isn't found, counted
+        or replaced."""
+        return CursorUnit(self._numbers(ctypes.c_uint32, 1, lib.ta_cursor_unit)[0])
+
+    @cursor_unit.setter
+    def cursor_unit(self, unit: CursorUnit) -> None:
+        self._call(lib.ta_set_cursor_unit, unit)
 
     # ---- Looks
 

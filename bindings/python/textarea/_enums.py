@@ -103,6 +103,13 @@ class CursorRenderMode(enum.IntEnum, metaclass=Names):
     HIDDEN = 1
 
 
+class CursorUnit(enum.IntEnum, metaclass=Names):
+    """What the cursor goes over as a whole, beside atomic ranges."""
+
+    CHARACTER = 0
+    CLUSTER = 1
+
+
 class Reason(enum.IntEnum, metaclass=Names):
     """Why an atomic range is rejected."""
 

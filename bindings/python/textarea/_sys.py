@@ -62,6 +62,8 @@ ALIGNMENT_CENTER = 1
 ALIGNMENT_RIGHT = 2
 CURSOR_CELL = 0
 CURSOR_HIDDEN = 1
+CURSOR_UNIT_CHARACTER = 0
+CURSOR_UNIT_CLUSTER = 1
 COLOR_NONE = 0
 COLOR_RESET = 1
 COLOR_BLACK = 2
@@ -311,6 +313,8 @@ def declare(library):
     declare_call(library, "ta_set_max_chars", [POINTER(Handle), c_size_t], c_uint32)
     declare_call(library, "ta_clear_max_chars", [POINTER(Handle)], c_uint32)
     declare_call(library, "ta_max_chars", [POINTER(Handle), POINTER(c_size_t)], c_uint32)
+    declare_call(library, "ta_set_cursor_unit", [POINTER(Handle), c_uint32], c_uint32)
+    declare_call(library, "ta_cursor_unit", [POINTER(Handle), POINTER(c_uint32)], c_uint32)
     declare_call(library, "ta_set_wrap_mode", [POINTER(Handle), c_uint32], c_uint32)
     declare_call(library, "ta_wrap_mode", [POINTER(Handle), POINTER(c_uint32)], c_uint32)
     declare_call(library, "ta_set_line_number_style", [POINTER(Handle), POINTER(Style)], c_uint32)

@@ -313,6 +313,17 @@ pub enum CursorRenderMode {
     Hidden,
 }
 
+/// What the cursor goes over as a whole, beside atomic ranges.
+#[non_exhaustive]
+#[derive(Clone, Copy, Debug, Default, PartialEq, Eq)]
+pub enum CursorUnit {
+    /// A character, as `char` is one.
+    #[default]
+    Character,
+    /// An extended grapheme cluster, such as a letter with its accents, or a flag.
+    Cluster,
+}
+
 /// Characters of a line that are edited as a whole: from `start_col` up to, but not including,
 /// `end_col`. Row and columns count from 0, columns in characters.
 #[derive(Clone, Copy, Debug, PartialEq, Eq)]

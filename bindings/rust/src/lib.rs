@@ -69,8 +69,8 @@ mod tui;
 
 pub use data::{
     AtomicCursorBias, AtomicDeleteDirection, AtomicRange, AtomicRangeError,
-    AtomicRangeRejectReason, ChangeUnit, CursorMove, CursorRenderMode, OutOfMemory, Pattern,
-    RejectedAtomicRange, Scrolling, SearchError, TextAreaMeasure, TextChange, WrapMode,
+    AtomicRangeRejectReason, ChangeUnit, CursorMove, CursorRenderMode, CursorUnit, OutOfMemory,
+    Pattern, RejectedAtomicRange, Scrolling, SearchError, TextAreaMeasure, TextChange, WrapMode,
 };
 pub use input::{Input, Key};
 pub use textarea::TextArea;

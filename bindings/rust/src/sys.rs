@@ -61,6 +61,8 @@ pub const ALIGNMENT_CENTER: u32 = 1;
 pub const ALIGNMENT_RIGHT: u32 = 2;
 pub const CURSOR_CELL: u32 = 0;
 pub const CURSOR_HIDDEN: u32 = 1;
+pub const CURSOR_UNIT_CHARACTER: u32 = 0;
+pub const CURSOR_UNIT_CLUSTER: u32 = 1;
 pub const COLOR_NONE: u32 = 0;
 pub const COLOR_RESET: u32 = 1;
 pub const COLOR_BLACK: u32 = 2;
@@ -368,6 +370,8 @@ unsafe extern "C" {
     pub fn ta_set_max_chars(handle: *mut Handle, maximum: usize) -> u32;
     pub fn ta_clear_max_chars(handle: *mut Handle) -> u32;
     pub fn ta_max_chars(handle: *mut Handle, maximum: *mut usize) -> u32;
+    pub fn ta_set_cursor_unit(handle: *mut Handle, unit: u32) -> u32;
+    pub fn ta_cursor_unit(handle: *mut Handle, unit: *mut u32) -> u32;
     pub fn ta_set_wrap_mode(handle: *mut Handle, mode: u32) -> u32;
     pub fn ta_wrap_mode(handle: *mut Handle, mode: *mut u32) -> u32;
     pub fn ta_set_line_number_style(handle: *mut Handle, style: *const Style) -> u32;

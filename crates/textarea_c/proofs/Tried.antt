@@ -8,7 +8,9 @@ use Rattle.textarea_data.specs.declared.range.RejectedAtomicRange.{RejectedAtomi
 use Rattle.textarea_ranges.specs.Rejected.{AreRejected}
 use Rattle.textarea_ranges.specs.Valid.{AreValid}
 use Rattle.textarea_text.specs.Text.{lines}
+use Rattle.textarea_data.specs.declared.range.AtomicCursorBias.TheVariants.{Forward}
 use Rattle.tui_textarea.specs.Ranges.{ranges_accepted}
+use Rattle.tui_textarea.specs.Units.{settled}
 use Rattle.tui_textarea.specs.State.{State}
 use Rattle.textarea_c.specs.declared.editor.Editor.{Editor}
 use Rattle.tui_textarea.specs.Selection.{IsInsertOutOfMemory}
@@ -93,7 +95,7 @@ range_left hit area a new err nothing = (
 -- ranges that were set, or rejected
 pub ranges_set : {T : Type 0} (outcome : Result T AtomicRangeError) (status : ℕ) (ranges : List AtomicRange) (a b : Editor)
     → MatchResult outcome (λ _. AreValid (lines a.area.document.text) ranges) (λ error. AreRejected (lines a.area.document.text) ranges error.rejected.items)
-    → OnOk outcome (b.area ≡ ranges_accepted a.area ranges) → OnErr outcome (b.area ≡ a.area)
+    → OnOk outcome (b.area ≡ settled Forward (ranges_accepted a.area ranges)) → OnErr outcome (b.area ≡ a.area)
     → MatchResult outcome (λ _. (status ≡ 0) × (b.rejected ≡ a.rejected)) (λ error. (status ≡ 4) × (b.rejected ≡ error.rejected))
     → b ≡ record a { area = b.area; rejected = b.rejected } → SetsValidRanges ranges status a b
 ranges_set (Ok done) status ranges a b judged set left stored rest =

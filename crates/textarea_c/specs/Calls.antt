@@ -21,6 +21,8 @@ use Rattle.textarea_search.specs.PlainTexts.{text_pattern}
 use Rattle.tui_textarea.specs.Search.{with_pattern, with_search_text}
 use Rattle.tui_textarea.specs.State.{State}
 use Rattle.tui_textarea.specs.Selection.{IsInsertOutOfMemory}
+use Rattle.textarea_data.specs.declared.range.AtomicCursorBias.TheVariants.{Forward}
+use Rattle.tui_textarea.specs.Units.{settled}
 use Rattle.tui_textarea.specs.Measure.{with_surround}
 use Rattle.textarea_screen.specs.Block.{BlockView}
 use Rattle.textarea_screen.specs.Text.{TextView}
@@ -137,7 +139,7 @@ Inserts area status a b =
 
 -- the insertion of this character, or of the break that it means, as typed
 unfoldable pub InsertsCharacter : ℕ → ℕ → Editor → Editor → Type 0
-InsertsCharacter c status a b = Inserts (if bars_character a.area c then a.area else char_inserted a.area c) status a b
+InsertsCharacter c status a b = Inserts (if bars_character a.area c then a.area else settled Forward (char_inserted a.area c)) status a b
 
 -- one that returns whether there was something to insert, and needs no memory where it does nothing
 abbrev pub TriesToInsert : Bool → Bool → State → ℕ → Editor → Editor → Type 0
@@ -179,7 +181,7 @@ FindsText text ignore_case whole_word status a b =
 -- setting ranges: only valid ones are set; the rejected ones of others are stored
 abbrev pub SetsValidRanges : List AtomicRange → ℕ → Editor → Editor → Type 0
 SetsValidRanges ranges status a b =
-    (status ≡ 0 → AreValid (lines a.area.document.text) ranges × (b ≡ with_area a (ranges_accepted a.area ranges)))
+    (status ≡ 0 → AreValid (lines a.area.document.text) ranges × (b ≡ with_area a (settled Forward (ranges_accepted a.area ranges))))
     × (status ≡ 4 → AreRejected (lines a.area.document.text) ranges b.rejected.items × (b ≡ record a { rejected = b.rejected }))
     × (status ≢ 0 → status ≢ 4 → (status ≡ 2) × (b ≡ a))
 

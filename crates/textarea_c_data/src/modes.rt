@@ -1,8 +1,8 @@
-//! The numbers of the modes of wrapping and of the cursor's cell.
+//! The numbers of the modes of wrapping and of the cursor's cell, and of the cursor's unit.
 ghost use Rattle.std.specs.Prelude.{◌≡◌, Some};
-ghost use Rattle.textarea_c_data.specs.Modes.{render_mode_of, wrap_mode_of};
+ghost use Rattle.textarea_c_data.specs.Modes.{cursor_unit_of, render_mode_of, wrap_mode_of};
 
-use textarea_data::cursor::CursorRenderMode;
+use textarea_data::cursor::{CursorRenderMode, CursorUnit};
 use textarea_wrap::wrap::WrapMode;
 
 /// Returns the wrap mode of this number.
@@ -48,5 +48,26 @@ pub fn render_mode_number(mode: CursorRenderMode) -> u32
     match mode {
         CursorRenderMode::Cell => 0,
         CursorRenderMode::Hidden => 1,
+    }
+}
+
+/// Returns the cursor's unit of this number.
+pub fn read_cursor_unit(number: u32) -> Option<CursorUnit>
+    ensures { result ≡ cursor_unit_of number }
+{
+    Some(match number {
+        0 => CursorUnit::Character,
+        1 => CursorUnit::Cluster,
+        _ => return None,
+    })
+}
+
+/// Returns the number of the cursor's unit.
+pub fn cursor_unit_number(unit: CursorUnit) -> u32
+    ensures { cursor_unit_of result ≡ Some unit }
+{
+    match unit {
+        CursorUnit::Character => 0,
+        CursorUnit::Cluster => 1,
     }
 }

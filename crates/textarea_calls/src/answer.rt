@@ -1,6 +1,6 @@
 //! The results of calls, as values that can be printed and compared.
 use textarea_change::TextChange;
-use textarea_data::cursor::CursorRenderMode;
+use textarea_data::cursor::{CursorRenderMode, CursorUnit};
 use textarea_data::measure::TextAreaMeasure;
 use textarea_data::range::{AtomicRange, RejectedAtomicRange};
 use textarea_screen::screen::{Alignment, Position, Style};
@@ -33,6 +33,8 @@ pub enum Answer {
     Character(Option<char>),
     /// How the cell at the cursor is drawn.
     CursorRenderMode(CursorRenderMode),
+    /// What the cursor goes over.
+    CursorUnit(CursorUnit),
     /// The alignment of the lines in the inner area.
     Alignment(Alignment),
     /// A number that is set.

@@ -3,7 +3,7 @@
 
 use std::time::Duration;
 use textarea_change::ChangeUnit;
-use textarea_data::cursor::{CursorMove, CursorRenderMode};
+use textarea_data::cursor::{CursorMove, CursorRenderMode, CursorUnit};
 use textarea_data::input::Input;
 use textarea_data::range::{AtomicCursorBias, AtomicDeleteDirection, AtomicRange};
 use textarea_data::scroll::Scrolling;
@@ -148,6 +148,8 @@ pub enum Call<'a> {
     SetSingleLine(bool),
     /// `TextArea::set_max_chars`
     SetMaxChars(Option<usize>),
+    /// `TextArea::set_cursor_unit`
+    SetCursorUnit(CursorUnit),
     /// `TextArea::set_wrap_mode`
     SetWrapMode(WrapMode),
     /// `TextArea::set_line_number_style`
@@ -240,6 +242,8 @@ pub enum Call<'a> {
     SingleLine,
     /// `TextArea::max_chars`
     MaxChars,
+    /// `TextArea::cursor_unit`
+    CursorUnit,
     /// `TextArea::tab_length`
     TabLength,
     /// `TextArea::hard_tab_indent`

@@ -34,6 +34,7 @@ impl fmt::Display for Answer {
             Answer::Style(style) => write!(f, "{style:?}"),
             Answer::Character(character) => write!(f, "{character:?}"),
             Answer::CursorRenderMode(mode) => write!(f, "{mode:?}"),
+            Answer::CursorUnit(unit) => write!(f, "{unit:?}"),
             Answer::Alignment(alignment) => write!(f, "{alignment:?}"),
             Answer::Number(number) | Answer::NumberIfAny(Some(number)) => write!(f, "{number}"),
             Answer::Cursor((row, column)) => write!(f, "{row} {column}"),

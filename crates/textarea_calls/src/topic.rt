@@ -6,7 +6,7 @@ ghost use Rattle.textarea_calls.specs.Topics.{call_of, draws};
 use crate::call::Call;
 use std::time::Duration;
 use textarea_change::ChangeUnit;
-use textarea_data::cursor::{CursorMove, CursorRenderMode};
+use textarea_data::cursor::{CursorMove, CursorRenderMode, CursorUnit};
 use textarea_data::input::Input;
 use textarea_data::range::{AtomicCursorBias, AtomicDeleteDirection, AtomicRange};
 use textarea_data::scroll::Scrolling;
@@ -142,6 +142,7 @@ pub enum OptionsCall {
     SetReadOnly(bool),
     SetSingleLine(bool),
     SetMaxChars(Option<usize>),
+    SetCursorUnit(CursorUnit),
     SetWrapMode(WrapMode),
     SetLineNumberStyle(Style),
     RemoveLineNumber,
@@ -203,6 +204,7 @@ pub enum ReadCall {
     ReadOnly,
     SingleLine,
     MaxChars,
+    CursorUnit,
     TabLength,
     HardTabIndent,
     WrapMode,
@@ -306,6 +308,7 @@ pub fn topic_of(call: Call<'_>) -> Topic<'_>
         Call::SetReadOnly(read_only) => Topic::Options(OptionsCall::SetReadOnly(read_only)),
         Call::SetSingleLine(single_line) => Topic::Options(OptionsCall::SetSingleLine(single_line)),
         Call::SetMaxChars(maximum) => Topic::Options(OptionsCall::SetMaxChars(maximum)),
+        Call::SetCursorUnit(unit) => Topic::Options(OptionsCall::SetCursorUnit(unit)),
         Call::SetWrapMode(mode) => Topic::Options(OptionsCall::SetWrapMode(mode)),
         Call::SetLineNumberStyle(style) => Topic::Options(OptionsCall::SetLineNumberStyle(style)),
         Call::RemoveLineNumber => Topic::Options(OptionsCall::RemoveLineNumber),
@@ -367,6 +370,7 @@ pub fn topic_of(call: Call<'_>) -> Topic<'_>
         Call::ReadOnly => Topic::Read(ReadCall::ReadOnly),
         Call::SingleLine => Topic::Read(ReadCall::SingleLine),
         Call::MaxChars => Topic::Read(ReadCall::MaxChars),
+        Call::CursorUnit => Topic::Read(ReadCall::CursorUnit),
         Call::TabLength => Topic::Read(ReadCall::TabLength),
         Call::HardTabIndent => Topic::Read(ReadCall::HardTabIndent),
         Call::WrapMode => Topic::Read(ReadCall::WrapMode),

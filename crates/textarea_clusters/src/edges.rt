@@ -1,11 +1,11 @@
 //! The columns of a line at which a grapheme cluster begins or ends.
-ghost use Rattle.std.specs.Prelude.{◌≡◌, ◌<◌, ◌≤◌, ◌+◌, length, true, IsCharBoundary};
+ghost use Rattle.std.specs.Prelude.{◌≡◌, ◌<◌, ◌≤◌, ◌+◌, length, take, encode_utf8_all, true, IsCharBoundary};
 ghost use Rattle.std.specs.Str.{chars};
 ghost use Rattle.unicode_segmentation.specs.Grapheme.{is_grapheme_break};
 ghost use Rattle.unicode_segmentation.specs.Segments.{breaks_at};
 ghost use Rattle.textarea_clusters.specs.Edges.{HasNoBreak, is_cluster_edge, edge_ahead, edge_back};
 
-use textarea_text::rows::{byte_offset, column_count};
+use textarea_text::rows::{byte_offset, byte_offset_from, column_count};
 use unicode_segmentation::GraphemeCursor;
 
 /// Returns whether a grapheme cluster of the line begins or ends at the column, counted in
@@ -16,6 +16,19 @@ pub fn is_cluster_edge(line: &str, column: usize) -> bool
     ensures { result ≡ is_cluster_edge (chars line.now) column }
 {
     is_break(line, byte_offset(line, column))
+}
+
+/// The same, given another column with its byte offset; returns the byte offset of the column too.
+/// Only the text between the two is walked to count its characters.
+pub fn is_cluster_edge_from(line: &str, known: (usize, usize), column: usize) -> (bool, usize)
+    requires known { known.0 ≤ length (chars line.now) }
+    requires offset { known.1 ≡ length (encode_utf8_all (take known.0 (chars line.now))) }
+    requires column { column ≤ length (chars line.now) }
+    ensures edge { result.0 ≡ is_cluster_edge (chars line.now) column }
+    ensures offset { result.1 ≡ length (encode_utf8_all (take column (chars line.now))) }
+{
+    let offset = byte_offset_from(line, known, column);
+    (is_break(line, offset), offset)
 }
 
 /// Returns the last edge of a cluster at or before the column: the column itself, or the start of

@@ -6,7 +6,7 @@ ghost use Rattle.textarea_text.specs.Place.{IsPlaceOf, line_of};
 ghost use Rattle.textarea_text.specs.Text.{lines_of};
 ghost use Rattle.textarea_ranges.specs.Lookup.{AreApart};
 ghost use Rattle.textarea_ranges.specs.Valid.{AreValid};
-ghost use Rattle.textarea_clusters.specs.Stops.{is_column_stop, is_stop, stop_ahead, stop_back};
+ghost use Rattle.textarea_clusters.specs.Stops.{column_back, is_column_stop, is_stop, stop_ahead, stop_back};
 
 use crate::edges::{edge_ahead, edge_back};
 use textarea_data::range::{AtomicCursorBias, AtomicRange};
@@ -22,13 +22,24 @@ pub fn stop_back(lines: &[String], ranges: &[AtomicRange], place: (usize, usize)
     ensures place { IsPlaceOf (lines_of lines.now) result }
 {
     let line = lines[place.0].as_str();
+    (place.0, column_back(line, ranges, place))
+}
+
+/// The same for a position in this line, of which the result is the column.
+pub fn column_back(line: &str, ranges: &[AtomicRange], place: (usize, usize)) -> usize
+    requires apart { AreApart ranges.now }
+    requires within { place.1 ≤ length (chars line.now) }
+    ensures value { result ≡ column_back ranges.now (chars line.now) place.0 place.1 }
+    ensures stop { is_column_stop ranges.now (chars line.now) place.0 result ≡ true }
+    ensures within { result ≤ place.1 }
+{
     let mut stop = place.1;
     let mut before = start_of(line, ranges, (place.0, stop));
     while before < stop {
         stop = before;
         before = start_of(line, ranges, (place.0, stop));
     }
-    (place.0, stop)
+    stop
 }
 
 // Returns the column of the start of the cluster that the position is inside, or of the range that

@@ -1,4 +1,4 @@
-//! Cursor moves and positions, and how the cursor is drawn.
+//! Cursor moves and positions, what the cursor goes over as a whole, and how it is drawn.
 
 ghost use Rattle.std.specs.Prelude.{◌≡◌};
 ghost use Rattle.textarea_data.specs.Cursor.{cursor_of, place_of_cursor};
@@ -78,5 +78,24 @@ impl Default for CursorRenderMode {
 
     fn default() -> CursorRenderMode {
         CursorRenderMode::Cell
+    }
+}
+
+/// What the cursor goes over as a whole, beside atomic ranges.
+#[derive(Clone, Copy, Debug, PartialEq, Eq)]
+pub enum CursorUnit {
+    /// A character, as `char` is one.
+    Character,
+    /// An extended grapheme cluster, such as a letter with its accents, or a flag.
+    Cluster,
+}
+
+impl Default for CursorUnit {
+    ghost use Rattle.textarea_data.specs.declared.cursor.CursorUnit.TheVariants.{Character};
+
+    ghost is_default = { λ unit. unit ≡ Character };
+
+    fn default() -> CursorUnit {
+        CursorUnit::Character
     }
 }

@@ -1,5 +1,5 @@
 -- The text after lines are indented or outdented: their starts are replaced, and nothing else.
-use Rattle.std.proofs.Common.{◌≡◌, ◌∙◌, ◌≤◌, ◌+◌, ◌-◌, ◌==◌, ◌&&◌, ℕ, suc, Bool, true, false, cond, not, List, [], ◌∷◌, ◌++◌, length, drop, take, Option, None, Some, IfSome, is_some, ap, arith, refl, sym, subst}
+use Rattle.std.proofs.Common.{◌≡◌, ◌∙◌, ◌≤◌, ◌+◌, ◌-◌, ◌==◌, ◌&&◌, ℕ, zero, suc, Bool, true, false, cond, not, List, [], ◌∷◌, ◌++◌, length, drop, take, Option, None, Some, IfSome, is_some, ap, arith, refl, sym, subst}
 use Rattle.std.specs.Prelude.{find}
 use Rattle.std.proofs.lemmas.Bool.{and_parts}
 use Rattle.std.proofs.lemmas.Bool.Decides.{nat_tests}
@@ -8,9 +8,14 @@ use Rattle.std.proofs.lemmas.List.Elements.{All-cons, All-nil}
 use Rattle.textarea_text.proofs.Splices.{characters-append, end-append, end-characters, length-characters, lines-joined}
 use Rattle.textarea_text.proofs.TextPlaces.{joined-lines}
 use Rattle.textarea_text.specs.Text.{following}
-use Rattle.textarea_ranges.specs.Lookup.{is_range_at_place}
+use Rattle.textarea_clusters.specs.Edges.{is_cluster_edge}
+use Rattle.textarea_clusters.specs.Stops.{column_back, is_column_stop}
+use Rattle.textarea_data.specs.declared.cursor.CursorUnit.TheVariants as units
+use Rattle.textarea_ranges.specs.Lookup.{is_inside, is_range_at_place, range_around}
+use Rattle.textarea_ranges.proofs.LookupLemmas.{is_inside-IsInside}
+use Rattle.textarea_data.specs.declared.cursor.CursorUnit.{CursorUnit}
 use Rattle.textarea_document.specs.Prelude.{AtomicRange, Break, DocumentState, Forward, IsInside, IsSound, Place, Symbol, characters, end, joined, lines}
-use Rattle.textarea_document.specs.Indenting.{begins_with_tab, free_spaces, indent_columns, is_free, is_free_space, is_selected_row, line_stretches, lines_shifted, outdent_columns, replaced_columns, shifted_over, unless_zero, stretch_from, stretches_from, with_start, with_starts}
+use Rattle.textarea_document.specs.Indenting.{begins_with_tab, free_spaces, indent_columns, is_free, is_free_space, is_selected_row, line_stretches, lines_shifted, outdent_columns, replaced_columns, shift_columns, shifted_over, unless_zero, whole_columns, stretch_from, stretches_from, with_start, with_starts}
 use Rattle.textarea_document.specs.ReplacedText.{AreReplaceable, AreStretches, IsOutside, with_replaced}
 use Rattle.textarea_document.specs.Replacing.{all_replaced}
 use Rattle.textarea_document.proofs.ReplacedTexts.{replaced_text}
@@ -73,6 +78,42 @@ outdent_fits ranges tab_length row line = by (begins_with_tab line && is_free ra
         let n = free_spaces ranges row 0 (take tab_length line) in
         (grind (arith, nat_tests, spaces.0, length-take tab_length line), same_column ranges row (0 + n) n (omega arith) spaces.1)
 
+-- where the cursor can be is strictly inside no range
+out_unless_around : (ranges : List AtomicRange) (row column : ℕ) → is_some (range_around ranges (row, column)) ≡ false → IsOutside ranges (row, column)
+out_unless_around [] row column none = All-nil (λ range. ¬ IsInside (row, column) range)
+out_unless_around (range ∷ ranges) row column none = by (is_inside (row, column) range) refl none (λ e. out_unless_around ranges row column e)
+  where
+    by : (here : Bool) → is_inside (row, column) range ≡ here → is_some (cond here (Some range) (find (is_inside (row, column)) ranges)) ≡ false
+        → (is_some (range_around ranges (row, column)) ≡ false → IsOutside ranges (row, column)) → IsOutside (range ∷ ranges) (row, column)
+    by true is e others = absurd cc
+    by false is e others =
+        All-cons (λ range. ¬ IsInside (row, column) range) range ranges
+        (λ inside. let no : is_inside (row, column) range ≡ true = is_inside-IsInside (row, column) range inside in absurd cc)
+        (others e)
+
+not_false : (b : Bool) → not b ≡ true → b ≡ false
+not_false true e = absurd cc
+not_false false e = refl
+
+pub outdent_within : (ranges : List AtomicRange) (tab_length row : ℕ) (line : List ℕ) → outdent_columns ranges tab_length row line ≤ length line
+outdent_within ranges tab_length row line = (outdent_fits ranges tab_length row line).0
+
+back_fits : (ranges : List AtomicRange) (row : ℕ) (line : List ℕ) (count : ℕ) → count ≤ length line → IsStart ranges row line (column_back ranges line row count)
+unfolding column_back
+back_fits ranges row line zero within = (within, out_at_start ranges row)
+back_fits ranges row line (suc count) within = by (is_column_stop ranges line row (suc count)) refl (back_fits ranges row line count (omega (arith, within)))
+  where
+    by : (stop : Bool) → is_column_stop ranges line row (suc count) ≡ stop → IsStart ranges row line (column_back ranges line row count)
+        → IsStart ranges row line (cond stop (suc count) (column_back ranges line row count))
+    by true e earlier =
+        let both = and_parts (is_cluster_edge line (suc count)) (not (is_some (range_around ranges (row, suc count)))) e in
+        (within, out_unless_around ranges row (suc count) (not_false (is_some (range_around ranges (row, suc count))) both.1))
+    by false e earlier = earlier
+
+whole_fits : (unit : CursorUnit) (ranges : List AtomicRange) (row : ℕ) (line : List ℕ) (count : ℕ) → IsStart ranges row line count → IsStart ranges row line (whole_columns unit ranges row line count)
+whole_fits units.Character ranges row line count fits = fits
+whole_fits units.Cluster ranges row line count fits = back_fits ranges row line count fits.0
+
 some_fits : (P : ℕ → Type 0) (count : ℕ) → P count → IfSome (unless_zero count) P
 some_fits P count h = by (count == 0)
   where
@@ -88,16 +129,19 @@ indent_fits ranges tab_length row (c ∷ line) = by (tab_length == 0)
     by true = tt
     by false = (omega arith, out_at_start ranges row)
 
-pub starts_fit : (document : DocumentState) (outdents : Bool) (row : ℕ) (line : List ℕ) → IfSome (replaced_columns document outdents row line) (IsStart document.ranges row line)
+pub starts_fit : (document : DocumentState) (outdents : Option CursorUnit) (row : ℕ) (line : List ℕ) → IfSome (replaced_columns document outdents row line) (IsStart document.ranges row line)
 starts_fit document outdents row line = by (is_selected_row document row) outdents
   where
     tab_length : ℕ
     tab_length = document.layout.settings.tab_len
 
-    by : (selected outdents : Bool) → IfSome (cond selected (cond outdents (unless_zero (outdent_columns document.ranges tab_length row line)) (indent_columns tab_length line)) None) (IsStart document.ranges row line)
+    by : (selected : Bool) (outdents : Option CursorUnit) → IfSome (cond selected (shift_columns outdents document.ranges tab_length row line) None) (IsStart document.ranges row line)
     by false outdents = tt
-    by true true = some_fits (IsStart document.ranges row line) (outdent_columns document.ranges tab_length row line) (outdent_fits document.ranges tab_length row line)
-    by true false = indent_fits document.ranges tab_length row line
+    by true None = indent_fits document.ranges tab_length row line
+    by true (Some unit) =
+        let count = outdent_columns document.ranges tab_length row line in
+        some_fits (IsStart document.ranges row line) (whole_columns unit document.ranges row line count)
+        (whole_fits unit document.ranges row line count (outdent_fits document.ranges tab_length row line))
 
 -- ---- lines after some symbols
 
@@ -164,7 +208,7 @@ end_of_line place front row column line is =
     ∙ end-append (row, column) (characters line) (Break ∷ [])
     ∙ ap (λ (p : Place). end p (Break ∷ [])) (end-characters row column line)
 
-stretches_are : (document : DocumentState) (outdents : Bool) (row before passed : ℕ) (place : Place) (gap opening : List Symbol) (rows : List (List ℕ)) → passed + (length gap + length opening) ≡ before
+stretches_are : (document : DocumentState) (outdents : Option CursorUnit) (row before passed : ℕ) (place : Place) (gap opening : List Symbol) (rows : List (List ℕ)) → passed + (length gap + length opening) ≡ before
     → end place (gap ++ opening) ≡ (row, 0) → AreStretches document.ranges place (gap ++ opened opening rows) passed (stretches_from document outdents row before rows)
 stretches_are document outdents row before passed place gap opening [] is at = tt
 stretches_are document outdents row before passed place gap opening (line ∷ rest) is at =
@@ -208,14 +252,14 @@ stretches_are document outdents row before passed place gap opening (line ∷ re
               (subst (λ t. AreStretches document.ranges (row, count) t stop others) (sym stop_is.1) further),
         )
 
-pub lines_replaceable : (document : DocumentState) (outdents : Bool) → AreReplaceable document (line_stretches document outdents)
+pub lines_replaceable : (document : DocumentState) (outdents : Option CursorUnit) → AreReplaceable document (line_stretches document outdents)
 lines_replaceable document outdents =
     subst (λ t. AreStretches document.ranges (0, 0) t 0 (line_stretches document outdents)) (sym (joined_is (lines document.text)) ∙ joined-lines document.text)
     (stretches_are document outdents 0 0 0 (0, 0) [] [] (lines document.text) refl refl)
 
 -- ---- the text after it
 
-starts_replaced : (document : DocumentState) (outdents : Bool) (tab : List ℕ) (row before passed : ℕ) (gap opening : List Symbol) (rows : List (List ℕ)) → passed + (length gap + length opening) ≡ before
+starts_replaced : (document : DocumentState) (outdents : Option CursorUnit) (tab : List ℕ) (row before passed : ℕ) (gap opening : List Symbol) (rows : List (List ℕ)) → passed + (length gap + length opening) ≡ before
     → with_replaced (gap ++ opened opening rows) passed (stretches_from document outdents row before rows) (characters tab) ≡ gap ++ opened opening (with_starts document outdents tab row rows)
 starts_replaced document outdents tab row before passed gap opening [] is = refl
 starts_replaced document outdents tab row before passed gap opening (line ∷ rest) is =
@@ -253,17 +297,17 @@ starts_replaced document outdents tab row before passed gap opening (line ∷ re
         ∙ ap (λ t. (gap ++ opening) ++ t) whole
         ∙ append_assoc gap opening (characters (tab ++ drop count line) ++ following new)
 
-over_text : (document : DocumentState) (outdents : Bool) (stretches : List (ℕ × ℕ)) (tab : List ℕ) (now : ℕ)
+over_text : (document : DocumentState) (outdents : Option CursorUnit) (stretches : List (ℕ × ℕ)) (tab : List ℕ) (now : ℕ)
     → (shifted_over document outdents stretches tab now).text ≡ (all_replaced document stretches (characters tab) now).text
 unfolding shifted_over all_replaced
 over_text document outdents [] tab now = refl
 over_text document outdents (stretch ∷ rest) tab now = refl
 
-length_with_starts : (document : DocumentState) (outdents : Bool) (tab : List ℕ) (row : ℕ) (rows : List (List ℕ)) → length (with_starts document outdents tab row rows) ≡ length rows
+length_with_starts : (document : DocumentState) (outdents : Option CursorUnit) (tab : List ℕ) (row : ℕ) (rows : List (List ℕ)) → length (with_starts document outdents tab row rows) ≡ length rows
 length_with_starts document outdents tab row [] = refl
 length_with_starts document outdents tab row (line ∷ rest) = ap (λ n. suc n) (length_with_starts document outdents tab (row + 1) rest)
 
-pub shifted_text : (document : DocumentState) (outdents : Bool) (tab : List ℕ) (now : ℕ) → IsSound document
+pub shifted_text : (document : DocumentState) (outdents : Option CursorUnit) (tab : List ℕ) (now : ℕ) → IsSound document
     → (lines_shifted document outdents tab now).text ≡ joined (with_starts document outdents tab 0 (lines document.text))
 shifted_text document outdents tab now h =
     let rows = lines document.text in
@@ -274,7 +318,7 @@ shifted_text document outdents tab now h =
     ∙ starts_replaced document outdents tab 0 0 0 [] [] rows refl
     ∙ sym (joined_is (with_starts document outdents tab 0 rows))
 
-pub shifted_lines : (document : DocumentState) (outdents : Bool) (tab : List ℕ) (now : ℕ) → IsSound document
+pub shifted_lines : (document : DocumentState) (outdents : Option CursorUnit) (tab : List ℕ) (now : ℕ) → IsSound document
     → lines (lines_shifted document outdents tab now).text ≡ with_starts document outdents tab 0 (lines document.text)
 shifted_lines document outdents tab now h =
     let rows = lines document.text in

@@ -7,6 +7,7 @@ use Rattle.std.proofs.lemmas.List.Elements.{All-cons, All-nil}
 use Rattle.std.proofs.lemmas.Str.{chars-IsAscii}
 use Rattle.std.proofs.lemmas.Str.Ascii.{IsAscii-from_all}
 use Rattle.textarea_text.proofs.PlaceLemmas.{length-fragment_line}
+use Rattle.textarea_data.specs.declared.cursor.CursorUnit.{CursorUnit}
 use Rattle.textarea_document.specs.Prelude.{AtomicRange, DocumentState, Place, Symbol, characters, chars, line_of, lines_of, size_limit, size_of}
 use Rattle.textarea_document.specs.Indenting.{free_spaces, is_free_space, line_stretches, lines_shifted, moved_near, replaced_columns, shifted_over, shifted_place, shifts_lines, stretch_from, stretches_from}
 use Rattle.textarea_document.specs.Replacing.{all_replaced}
@@ -61,7 +62,7 @@ size_left (line ∷ lines) (suc i) within =
     subst (λ n. length (line_of (lines_of lines) i) + 1 + size_of (drop n (line ∷ lines)) ≤ size_of (drop i lines)) next (size_left lines i (omega (arith, within)))
 
 -- one line more
-pub stretches_more : (document : DocumentState) (outdents : Bool) (row before : ℕ) (rows : List (List ℕ)) (so_far : List (ℕ × ℕ)) → row < length rows
+pub stretches_more : (document : DocumentState) (outdents : Option CursorUnit) (row before : ℕ) (rows : List (List ℕ)) (so_far : List (ℕ × ℕ)) → row < length rows
     → so_far ++ stretches_from document outdents row before (drop row rows)
     ≡ so_far ++ (stretch_from before (replaced_columns document outdents row (line_of rows row)) ++ stretches_from document outdents (row + 1) (before + length (line_of rows row) + 1) (drop (row + 1) rows))
 stretches_more document outdents row before rows so_far within =
@@ -73,18 +74,18 @@ room_for before (Some count) small within = omega (arith, small, within)
 
 -- ---- lines that are indented or outdented
 
-pub shifts_is : (document : DocumentState) (outdents : Bool) (stretches : List (ℕ × ℕ)) (empty : Bool) → stretches ≡ line_stretches document outdents → (length stretches == 0) ≡ empty
+pub shifts_is : (document : DocumentState) (outdents : Option CursorUnit) (stretches : List (ℕ × ℕ)) (empty : Bool) → stretches ≡ line_stretches document outdents → (length stretches == 0) ≡ empty
     → not empty ≡ shifts_lines document outdents
 shifts_is document outdents stretches empty is e = ap not (sym e) ∙ ap (λ (s : List (ℕ × ℕ)). not (length s == 0)) is
 
 -- without stretches nothing changes
-pub none_shifted : (document : DocumentState) (outdents : Bool) (stretches : List (ℕ × ℕ)) (tab : List ℕ) (now : ℕ) → stretches ≡ line_stretches document outdents → (length stretches == 0) ≡ true
+pub none_shifted : (document : DocumentState) (outdents : Option CursorUnit) (stretches : List (ℕ × ℕ)) (tab : List ℕ) (now : ℕ) → stretches ≡ line_stretches document outdents → (length stretches == 0) ≡ true
     → document ≡ lines_shifted document outdents tab now
 unfolding shifted_over
 none_shifted document outdents stretches tab now is e =
     ap (λ (s : List (ℕ × ℕ)). shifted_over document outdents s tab now) (sym (nil_from_length stretches (eqb-true (length stretches) 0 e)) ∙ is)
 
-some_shifted : (document : DocumentState) (outdents : Bool) (stretches : List (ℕ × ℕ)) (tab : List ℕ) (now : ℕ) → (length stretches == 0) ≡ false
+some_shifted : (document : DocumentState) (outdents : Option CursorUnit) (stretches : List (ℕ × ℕ)) (tab : List ℕ) (now : ℕ) → (length stretches == 0) ≡ false
     → moved_near (all_replaced document stretches (characters tab) now) (shifted_place document outdents (length tab) document.cursor) (option_map (shifted_place document outdents (length tab)) document.anchor)
     ≡ shifted_over document outdents stretches tab now
 unfolding shifted_over
@@ -92,7 +93,7 @@ some_shifted document outdents [] tab now some = absurd cc
 some_shifted document outdents (stretch ∷ rest) tab now some = refl
 
 -- with some they are replaced, and then cursor and anchor move
-pub shifted_as : (document replaced new : DocumentState) (outdents : Bool) (stretches : List (ℕ × ℕ)) (tab : List ℕ) (symbols : List Symbol) (columns now : ℕ) (cursor : Place) (anchor : Option Place)
+pub shifted_as : (document replaced new : DocumentState) (outdents : Option CursorUnit) (stretches : List (ℕ × ℕ)) (tab : List ℕ) (symbols : List Symbol) (columns now : ℕ) (cursor : Place) (anchor : Option Place)
     → stretches ≡ line_stretches document outdents → (length stretches == 0) ≡ false → symbols ≡ characters tab → columns ≡ length tab → cursor ≡ shifted_place document outdents columns document.cursor
     → anchor ≡ option_map (shifted_place document outdents columns) document.anchor → replaced ≡ all_replaced document stretches symbols now → new ≡ moved_near replaced cursor anchor
     → new ≡ lines_shifted document outdents tab now

@@ -34,6 +34,19 @@ logged_times : (step : DocumentState → DocumentState) (text_step : Logged → 
 logged_times step text_step one zero document = refl
 logged_times step text_step one (suc count) document = one (times count step document) ∙ ap text_step (logged_times step text_step one count document)
 
+-- the undo of a group, on a text and its log
+abbrev group_undone : Logged → Logged
+group_undone all = times (newest_group all.log) text_undone all
+
+group_logged : (document : DocumentState) → logged (after_undo document) ≡ group_undone (logged document)
+group_logged document = logged_times edit_undone text_undone undone_logged (newest_group document.log) document
+
+-- undos from documents with the same text and log give the same texts, wherever the cursors are
+pub undos_alike : (count : ℕ) (one other : DocumentState) → logged one ≡ logged other → (times count after_undo one).text ≡ (times count after_undo other).text
+undos_alike count one other same =
+    ap (λ (l : Logged). l.text)
+    (logged_times after_undo group_undone group_logged count one ∙ ap (times count group_undone) same ∙ sym (logged_times after_undo group_undone group_logged count other))
+
 -- `count` undos of edits, and the same number of redos
 record RestoresEdits (document : DocumentState) (count : ℕ) : Type 0 where
   before : IsTextBefore (times count edit_undone document).text document.text (drop (length document.log.done - count) document.log.done)

@@ -4,6 +4,9 @@ use Rattle.textarea_text.specs.Between.{clip}
 use Rattle.textarea_text.specs.Place.{Place, line_of}
 use Rattle.textarea_text.specs.Splice.{Splice}
 use Rattle.textarea_text.specs.Text.{characters, lines}
+use Rattle.textarea_clusters.specs.Stops.{column_back}
+use Rattle.textarea_data.specs.declared.cursor.CursorUnit.{CursorUnit}
+use Rattle.textarea_data.specs.declared.cursor.CursorUnit.TheVariants as unit
 use Rattle.textarea_data.specs.declared.range.AtomicRange.{AtomicRange}
 use Rattle.textarea_data.specs.declared.range.AtomicDeleteDirection.TheVariants.{Forward}
 use Rattle.textarea_ranges.specs.Lookup.{range_at_place}
@@ -49,17 +52,27 @@ abbrev pub indent_columns : ℕ → List ℕ → Option ℕ
 indent_columns tab_length [] = None
 indent_columns tab_length (c ∷ line) = if tab_length == 0 then None else Some 0
 
+-- so many characters or, if the cursor goes by clusters, the most of them after which it can be
+abbrev pub whole_columns : CursorUnit → List AtomicRange → ℕ → List ℕ → ℕ → ℕ
+whole_columns unit.Character ranges row line count = count
+whole_columns unit.Cluster ranges row line count = column_back ranges line row count
+
+-- how many characters are replaced in a line that is outdented, by this unit of the cursor, or indented
+abbrev pub shift_columns : Option CursorUnit → List AtomicRange → ℕ → ℕ → List ℕ → Option ℕ
+shift_columns None ranges tab_length row line = indent_columns tab_length line
+shift_columns (Some by) ranges tab_length row line =
+    unless_zero (whole_columns by ranges row line (outdent_columns ranges tab_length row line))
+
 -- whether the row is that of a line of the selection, or the cursor's without one
 abbrev pub is_selected_row : DocumentState → ℕ → Bool
 is_selected_row document row = nat_le (first_selected_row document) row && nat_le row (last_selected_row document)
 
--- how many characters at the start of the row's line are replaced; none if the line is left
-abbrev pub replaced_columns : DocumentState → Bool → ℕ → List ℕ → Option ℕ
+-- how many characters at the start of the row's line are replaced; none if the line is left. The lines
+-- are outdented, by the cursor's unit if there is one, or indented
+abbrev pub replaced_columns : DocumentState → Option CursorUnit → ℕ → List ℕ → Option ℕ
 replaced_columns document outdents row line =
     let tab_length = document.layout.settings.tab_len in
-    if is_selected_row document row
-    then (if outdents then unless_zero (outdent_columns document.ranges tab_length row line) else indent_columns tab_length line)
-    else None
+    if is_selected_row document row then shift_columns outdents document.ranges tab_length row line else None
 
 -- ---- the stretches of the text
 
@@ -69,17 +82,17 @@ stretch_from before None = []
 stretch_from before (Some count) = (before, before + count) ∷ []
 
 -- those of lines, the first of which has this row and begins after `before` symbols
-abbrev pub stretches_from : DocumentState → Bool → ℕ → ℕ → List (List ℕ) → List (ℕ × ℕ)
+abbrev pub stretches_from : DocumentState → Option CursorUnit → ℕ → ℕ → List (List ℕ) → List (ℕ × ℕ)
 stretches_from document outdents row before [] = []
 stretches_from document outdents row before (line ∷ rest) =
     stretch_from before (replaced_columns document outdents row line)
     ++ stretches_from document outdents (row + 1) (before + length line + 1) rest
 
-abbrev pub line_stretches : DocumentState → Bool → List (ℕ × ℕ)
+abbrev pub line_stretches : DocumentState → Option CursorUnit → List (ℕ × ℕ)
 line_stretches document outdents = stretches_from document outdents 0 0 (lines document.text)
 
 -- whether a line is indented or outdented
-abbrev pub shifts_lines : DocumentState → Bool → Bool
+abbrev pub shifts_lines : DocumentState → Option CursorUnit → Bool
 shifts_lines document outdents = not (length (line_stretches document outdents) == 0)
 
 -- ---- the lines after it
@@ -90,7 +103,7 @@ with_start tab None line = line
 with_start tab (Some count) line = tab ++ drop count line
 
 -- those of lines, the first of which has this row
-abbrev pub with_starts : DocumentState → Bool → List ℕ → ℕ → List (List ℕ) → List (List ℕ)
+abbrev pub with_starts : DocumentState → Option CursorUnit → List ℕ → ℕ → List (List ℕ) → List (List ℕ)
 with_starts document outdents tab row [] = []
 with_starts document outdents tab row (line ∷ rest) =
     with_start tab (replaced_columns document outdents row line) line
@@ -109,7 +122,7 @@ abbrev pub shifted_by : Option ℕ → Bool → ℕ → Place → Place
 shifted_by None stays columns place = place
 shifted_by (Some count) stays columns place = (place.0, shifted_column stays count columns place.1)
 
-abbrev pub shifted_place : DocumentState → Bool → ℕ → Place → Place
+abbrev pub shifted_place : DocumentState → Option CursorUnit → ℕ → Place → Place
 shifted_place document outdents columns place =
     shifted_by (replaced_columns document outdents place.0 (line_of (lines document.text) place.0))
     (is_selected document) columns place
@@ -123,13 +136,13 @@ moved_near document cursor anchor =
 
 -- the stretches are replaced by the tab, and cursor and anchor move with the text; without any
 -- nothing changes
-unfoldable pub shifted_over : DocumentState → Bool → List (ℕ × ℕ) → List ℕ → ℕ → DocumentState
+unfoldable pub shifted_over : DocumentState → Option CursorUnit → List (ℕ × ℕ) → List ℕ → ℕ → DocumentState
 shifted_over document outdents [] tab now = document
 shifted_over document outdents (stretch ∷ rest) tab now =
     let place = shifted_place document outdents (length tab) in
     moved_near (all_replaced document (stretch ∷ rest) (characters tab) now) (place document.cursor) (option_map place document.anchor)
 
-abbrev pub lines_shifted : DocumentState → Bool → List ℕ → ℕ → DocumentState
+abbrev pub lines_shifted : DocumentState → Option CursorUnit → List ℕ → ℕ → DocumentState
 lines_shifted document outdents tab now =
     shifted_over document outdents (line_stretches document outdents) tab now
 
@@ -137,25 +150,25 @@ lines_shifted document outdents tab now =
 abbrev pub tab_characters : Bool → ℕ → List ℕ
 tab_characters hard tab_length = if hard then 9 ∷ [] else replicate tab_length 32
 
-abbrev pub tab_of : DocumentState → Bool → List ℕ
+abbrev pub tab_of : DocumentState → Option CursorUnit → List ℕ
 tab_of document hard = tab_characters hard document.layout.settings.tab_len
 
 -- a tab is inserted at the start of each line of the selection, or of the cursor's line without one
-abbrev pub lines_indented : DocumentState → Bool → ℕ → DocumentState
-lines_indented document hard now = lines_shifted document false (tab_of document hard) now
+abbrev pub lines_indented : DocumentState → Option CursorUnit → ℕ → DocumentState
+lines_indented document hard now = lines_shifted document None (tab_of document hard) now
 
 -- a tab, or spaces in its place, are removed there
-abbrev pub lines_outdented : DocumentState → ℕ → DocumentState
-lines_outdented document now = lines_shifted document true [] now
+abbrev pub lines_outdented : DocumentState → CursorUnit → ℕ → DocumentState
+lines_outdented document by now = lines_shifted document (Some by) [] now
 
 -- ---- their splices
 
-abbrev pub shift_splices : DocumentState → Bool → List ℕ → ℕ → List Splice
+abbrev pub shift_splices : DocumentState → Option CursorUnit → List ℕ → ℕ → List Splice
 shift_splices document outdents tab now =
     all_splices document (line_stretches document outdents) (characters tab) now
 
-abbrev pub indent_splices : DocumentState → Bool → ℕ → List Splice
-indent_splices document hard now = shift_splices document false (tab_of document hard) now
+abbrev pub indent_splices : DocumentState → Option CursorUnit → ℕ → List Splice
+indent_splices document hard now = shift_splices document None (tab_of document hard) now
 
-abbrev pub outdent_splices : DocumentState → ℕ → List Splice
-outdent_splices document now = shift_splices document true [] now
+abbrev pub outdent_splices : DocumentState → CursorUnit → ℕ → List Splice
+outdent_splices document by now = shift_splices document (Some by) [] now

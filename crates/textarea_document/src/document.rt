@@ -226,6 +226,14 @@ impl Document {
         self.history.break_run();
     }
 
+    /// Moves the cursor to a position of the text. The anchor and a run of typing stay.
+    pub fn set_cursor(&mut self, cursor: (usize, usize))
+        requires { IsPlace self.old.text cursor }
+        ensures { self.new ≡ record self.old { cursor = cursor } }
+    {
+        self.cursor = cursor;
+    }
+
     /// Sets where the selection began, or `None` for no selection.
     pub fn set_anchor(&mut self, anchor: Option<(usize, usize)>)
         requires { IfSome anchor (IsPlace self.old.text) }

@@ -60,6 +60,8 @@ use Rattle.textarea_wrap.specs.declared.wrap.WrapMode.TheVariants as wrap
 use Rattle.tui_textarea.specs.Drawing.{widget_of}
 use Rattle.tui_textarea.specs.DrawnFrame.{WidgetState}
 use Rattle.tui_textarea.specs.Edits.{inserts_text, str_inserted}
+use Rattle.textarea_data.specs.declared.range.AtomicCursorBias.TheVariants.{Forward as BiasForward}
+use Rattle.tui_textarea.specs.Units.{settled}
 use Rattle.tui_textarea.specs.Hit.{IsHitTest}
 use Rattle.tui_textarea.specs.Guards.{admitted_over_selection, is_editable, unless_read_only}
 use Rattle.tui_textarea.specs.Input.{IsAfterAction, action_flag, asked_by}
@@ -296,7 +298,7 @@ paste_calls text = call.InsertPasted (borrowed text) ∷ []
 abbrev pub IsPasteInPrompt : Asked → Controls → State → List ℕ → List Call → Type 0
 IsPasteInPrompt asked controls field text calls =
     let line = fragment_symbols (first_line (chars text)) in
-    IsPromptEdited (is_editable field && inserts_text field (admitted_over_selection field line)) asked controls (unless_read_only field (str_inserted field (admitted_over_selection field line))) calls
+    IsPromptEdited (is_editable field && inserts_text field (admitted_over_selection field line)) asked controls (unless_read_only field (settled BiasForward (str_inserted field (admitted_over_selection field line)))) calls
 
 abbrev pub IsPaste : Focus → Editor → List ℕ → List Call → Type 0
 IsPaste focus.Text editor text calls = calls ≡ paste_calls text

@@ -4,13 +4,16 @@ ghost use Rattle.textarea_calls.specs.Possible.{CanBeMade};
 ghost use Rattle.tui_textarea.specs.ChangesOverCalls.{ChangesOfRun};
 ghost use Rattle.tui_textarea.specs.RangesOverCalls.{RangesOfRun};
 ghost use Rattle.tui_textarea.specs.Run.{Run};
+ghost use Rattle.tui_textarea.specs.Units.{IsSettled};
 
 use crate::perform::perform;
 use textarea_calls::{Answer, Call};
 use textarea_screen::screen::Buffer;
 use tui_textarea::TextArea;
 use tui_textarea::laws::is_sound;
-use tui_textarea::outcomes::laws::{changes_follow_each_run, ranges_follow_each_run};
+use tui_textarea::outcomes::laws::{
+    changes_follow_each_run, ranges_follow_each_run, settled_runs_stay,
+};
 
 /// The end of a run of calls.
 #[derive(Drop)]
@@ -41,6 +44,9 @@ pub struct RunEnd {
 /// the log at the end, follow those in the log at the start, and the further ones, applied one after
 /// another to the text at the start, give the text at the end.
 ///
+/// If the cursor goes by clusters, neither a cluster nor an atomic range strictly contains it or the
+/// selection's beginning after the list, if none did before it.
+///
 /// Each `Call::SetLines` needs at least one line. Memory for the results is reserved first. If that
 /// fails, no call is made and the index of the failed call is 0.
 pub fn run(area: &mut TextArea<'_>, calls: &[Call<'_>], buffer: &mut Buffer) -> RunEnd
@@ -49,10 +55,12 @@ pub fn run(area: &mut TextArea<'_>, calls: &[Call<'_>], buffer: &mut Buffer) -> 
         buffer.new }
     ensures ranges { RangesOfRun area.old buffer.old calls.now result.answers.items area.new }
     ensures changes { ChangesOfRun area.old calls.now result.answers.items area.new }
+    ensures settled { IsSettled area.old → IsSettled area.new }
 {
     is_sound(area);
     ranges_follow_each_run();
     changes_follow_each_run();
+    settled_runs_stay();
     let mut answers = Vec::new(area.allocator());
     if answers.try_reserve(calls.len()).is_err() {
         return RunEnd {

@@ -264,6 +264,10 @@ pub(crate) fn options_call(area: &mut TextArea<'_>, call: OptionsCall) -> Result
             area.set_max_chars(maximum);
             Ok(Answer::Done)
         }
+        OptionsCall::SetCursorUnit(unit) => {
+            area.set_cursor_unit(unit);
+            Ok(Answer::Done)
+        }
         OptionsCall::SetWrapMode(mode) => area.set_wrap_mode(mode).map(|()| Answer::Done),
         OptionsCall::SetLineNumberStyle(style) => area
             .set_line_number_style(style)
@@ -400,6 +404,7 @@ pub(crate) fn read_call(area: &mut TextArea<'_>, call: ReadCall) -> Result<Answe
         ReadCall::ReadOnly => Ok(Answer::Flag(area.read_only())),
         ReadCall::SingleLine => Ok(Answer::Flag(area.single_line())),
         ReadCall::MaxChars => Ok(Answer::NumberIfAny(area.max_chars())),
+        ReadCall::CursorUnit => Ok(Answer::CursorUnit(area.cursor_unit())),
         ReadCall::TabLength => Ok(Answer::Number(area.tab_length() as usize)),
         ReadCall::HardTabIndent => Ok(Answer::Flag(area.hard_tab_indent())),
         ReadCall::WrapMode => Ok(Answer::WrapMode(area.wrap_mode())),

@@ -10,6 +10,8 @@ use Rattle.textarea_change.specs.declared.change.ChangeUnit.{ChangeUnit}
 use Rattle.textarea_change.specs.declared.change.ChangeUnit.TheVariants as unit
 use Rattle.textarea_data.specs.declared.cursor.CursorMove.{CursorMove}
 use Rattle.textarea_data.specs.declared.cursor.CursorMove.TheVariants as move
+use Rattle.textarea_data.specs.declared.cursor.CursorUnit.{CursorUnit}
+use Rattle.textarea_data.specs.declared.cursor.CursorUnit.TheVariants as cursor_unit
 use Rattle.textarea_data.specs.declared.scroll.Scrolling.{Scrolling}
 use Rattle.textarea_data.specs.declared.scroll.Scrolling.TheVariants as scrolling
 use Rattle.textarea_screen.specs.declared.screen.rect.Rect.{Rect}
@@ -144,6 +146,12 @@ change_units =
 
 abbrev pub change_unit_named : List ℕ → Option (Option ChangeUnit)
 change_unit_named = named change_units
+
+abbrev pub cursor_unit_names : List (List ℕ × CursorUnit)
+cursor_unit_names = (codes "Character", cursor_unit.Character) ∷ (codes "Cluster", cursor_unit.Cluster) ∷ []
+
+abbrev pub cursor_unit_named : List ℕ → Option CursorUnit
+cursor_unit_named = named cursor_unit_names
 
 abbrev pub modes : List (List ℕ × WrapMode)
 modes =

@@ -2,7 +2,7 @@
 -- The commands of calls that borrow nothing, and whose arguments are read by their types.
 use Rattle.std.specs.Prelude.{ℕ, List, [], ◌∷◌, ◌++◌, codes, Option}
 use Rattle.textarea_calls.specs.declared.call.Call.TheVariants as call
-use Rattle.textarea_script_syntax.specs.Arguments.{byte_number, change_unit_named, mode_named, move_named, number, number_or_none, scroll_amounts, short_number, truth, two_numbers}
+use Rattle.textarea_script_syntax.specs.Arguments.{byte_number, change_unit_named, cursor_unit_named, mode_named, move_named, number, number_or_none, scroll_amounts, short_number, truth, two_numbers}
 use Rattle.textarea_script_syntax.specs.Escapes.{character}
 use Rattle.textarea_script_syntax.specs.Meaning.{Meaning, meaning_by, plain_command, without_arguments}
 
@@ -25,6 +25,7 @@ commands_with_arguments =
     ∷ (codes "set_read_only", plain_command truth call.SetReadOnly)
     ∷ (codes "set_single_line", plain_command truth call.SetSingleLine)
     ∷ (codes "set_max_chars", plain_command number_or_none call.SetMaxChars)
+    ∷ (codes "set_cursor_unit", plain_command cursor_unit_named call.SetCursorUnit)
     ∷ (codes "set_wrap_mode", plain_command mode_named call.SetWrapMode)
     ∷ (codes "set_mask_char", plain_command character call.SetMaskChar)
     ∷ (codes "measure", plain_command short_number call.Measure)

@@ -2,7 +2,7 @@
 ghost use Rattle.std.specs.Char.{is_ascii_digit, is_ascii_hexdigit};
 ghost use Rattle.std.specs.List.{list_all};
 ghost use Rattle.std.specs.Prelude.{◌≡◌, ◌<◌, ◌≤◌, ◌++◌, ◌∷◌, [], length, map, option_copied, option_map, string_bytes, vec_len, IfOk, IfSome, MatchOption, OnOk, Some};
-ghost use Rattle.textarea_script_syntax.specs.Arguments.{IsReadAs, byte_number, mode_named, move_named, number, number_or_none, page, split_first, scroll_amounts, short_number, sides, sides_of_area, signed_number, truth, two_numbers, two_places, two_short_numbers, change_unit_named};
+ghost use Rattle.textarea_script_syntax.specs.Arguments.{IsReadAs, byte_number, cursor_unit_named, mode_named, move_named, number, number_or_none, page, split_first, scroll_amounts, short_number, sides, sides_of_area, signed_number, truth, two_numbers, two_places, two_short_numbers, change_unit_named};
 ghost use Rattle.textarea_script_syntax.specs.FirstLine.{IsLinePushed};
 ghost use Rattle.textarea_script_syntax.specs.Escapes.{HasNoBackslash, character, character_numbered, escape, first_character, in_front, numbered_escape, unescaped, unescaped_lines};
 ghost use Rattle.textarea_script_syntax.specs.Inputs.{modifiers_named, input_named, key_without_arguments, key_named, key_with};
@@ -10,7 +10,7 @@ ghost use Rattle.textarea_script_syntax.specs.Ranges.{range, ranges, ranges_afte
 
 use std::alloc::{AllocError, AllocFailed, Global};
 use textarea_change::ChangeUnit;
-use textarea_data::cursor::CursorMove;
+use textarea_data::cursor::{CursorMove, CursorUnit};
 use textarea_data::input::{Input, Key};
 use textarea_data::range::AtomicRange;
 use textarea_data::scroll::Scrolling;
@@ -265,6 +265,17 @@ pub fn change_unit_named(name: &str) -> Option<Option<ChangeUnit>>
         "Bytes" => Some(ChangeUnit::Bytes),
         "Utf16" => Some(ChangeUnit::Utf16),
         "None" => None,
+        _ => return None,
+    })
+}
+
+// The unit of the cursor that the text names.
+pub fn cursor_unit_named(name: &str) -> Option<CursorUnit>
+    ensures { result ≡ cursor_unit_named name.now }
+{
+    Some(match name {
+        "Character" => CursorUnit::Character,
+        "Cluster" => CursorUnit::Cluster,
         _ => return None,
     })
 }

@@ -8,8 +8,8 @@ ghost use Rattle.textarea_script_syntax.specs.Script.{meaning_of};
 ghost use Rattle.textarea_script_syntax.specs.declared.commands.CommandContent.TheVariants.{Plain};
 
 use crate::arguments::{
-    byte_number, change_unit_named, mode_named, move_named, one_character, scroll_amounts,
-    short_number, size, size_or_none, truth, two_numbers,
+    byte_number, change_unit_named, cursor_unit_named, mode_named, move_named, one_character,
+    scroll_amounts, short_number, size, size_or_none, truth, two_numbers,
 };
 use textarea_calls::Call;
 
@@ -81,6 +81,7 @@ pub fn call_with_arguments(name: &str, arguments: &str) -> Option<Call<'static>>
         "set_read_only" => Some(Call::SetReadOnly(truth(arguments)?)),
         "set_single_line" => Some(Call::SetSingleLine(truth(arguments)?)),
         "set_max_chars" => Some(Call::SetMaxChars(size_or_none(arguments)?)),
+        "set_cursor_unit" => Some(Call::SetCursorUnit(cursor_unit_named(arguments)?)),
         "set_wrap_mode" => Some(Call::SetWrapMode(mode_named(arguments)?)),
         "set_mask_char" => Some(Call::SetMaskChar(one_character(arguments)?)),
         "measure" => Some(Call::Measure(short_number(arguments)?)),

@@ -2,7 +2,7 @@
 use crate::differences::{Differences, ranges_text, styles_text};
 use crate::stop::Stop;
 use std::alloc::{AllocError, Global};
-use tui_textarea::{Buffer, TextArea};
+use tui_textarea::{Buffer, CursorUnit, TextArea};
 
 /// Returns the text for a line that asks for more than a call returns: `unprinted`, `atomic_ranges`
 /// or `viewport` of the text area, or `styles` of the cells in an area of the buffer.
@@ -53,6 +53,7 @@ fn tell(differences: &mut Differences, area: &TextArea<'_>) -> Result<(), AllocE
         usize::MAX,
         "max_chars",
     )?;
+    differences.flag(area.cursor_unit() == CursorUnit::Cluster, "clusters")?;
     differences.number(area.max_histories(), 50, "max_histories")?;
     differences.mode(area.wrap_mode())?;
     differences.style(area.line_number_style(), "line_number_style")?;

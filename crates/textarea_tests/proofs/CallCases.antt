@@ -7,7 +7,8 @@ use Rattle.textarea_document.specs.Edits.{removed_before, removed_after, between
 use Rattle.tui_textarea.specs.Removals.{yanked}
 use Rattle.textarea_screen.specs.declared.screen.buffer.Buffer.{Buffer}
 use Rattle.textarea_document.specs.Target.{target}
-use Rattle.tui_textarea.specs.Moves.{IsMoved, IsTarget, after_move_by, pushed}
+use Rattle.tui_textarea.specs.Moves.{IsMoved, IsTarget, after_move_by, bias_of, pushed}
+use Rattle.tui_textarea.specs.Units.{settled}
 use Rattle.tui_textarea.specs.State.{State, new_state}
 use Rattle.textarea_data.specs.declared.cursor.CursorMove.{CursorMove}
 use Rattle.textarea_data.specs.declared.cursor.CursorMove.TheVariants.{Back, Down, Head, InViewport, Up}
@@ -55,7 +56,7 @@ plain_target state cursor_move = target state.document.text state.document.curso
 
 -- the state after such a move
 abbrev after_move : State → CursorMove → State
-after_move state cursor_move = after_move_by state (is_some state.document.anchor) (pushed state.document.ranges cursor_move (plain_target state cursor_move))
+after_move state cursor_move = settled (bias_of cursor_move) (after_move_by state (is_some state.document.anchor) (pushed state.document.ranges cursor_move (plain_target state cursor_move)))
 
 -- the state after such a call
 abbrev after : State → Call → State
@@ -131,7 +132,7 @@ abbrev two_lines : List Call
 two_lines = InsertChar 97 ∷ InsertNewline ∷ InsertChar 98 ∷ DeleteChar ∷ Undo ∷ []
 
 two_lines-results : results_of empty two_lines ≡ Done ∷ Done ∷ Done ∷ Flag true ∷ Flag true ∷ []
-unfolding removed_before removed_after between_removed yanked moved_ranges
+unfolding removed_before removed_after between_removed yanked moved_ranges settled
 two_lines-results = refl
 
 -- a run leads there
@@ -139,17 +140,17 @@ two_lines-leads : (buffer : Buffer) → Leads empty buffer two_lines (results_of
 two_lines-leads buffer = settled-leads empty buffer two_lines (tt, (tt, (tt, (tt, (tt, tt)))))
 
 two_lines-text : (reached two_lines).document.text ≡ Character 97 ∷ Break ∷ Character 98 ∷ []
-unfolding removed_before removed_after between_removed yanked moved_ranges
+unfolding removed_before removed_after between_removed yanked moved_ranges settled
 two_lines-text = refl
 
 -- the cursor is after the restored text
 two_lines-cursor : (reached two_lines).document.cursor ≡ (1, 1)
-unfolding removed_before removed_after between_removed yanked moved_ranges
+unfolding removed_before removed_after between_removed yanked moved_ranges settled
 two_lines-cursor = refl
 
 -- the removal can be redone
 two_lines-undone : (reached two_lines).document.log.undone ≡ (record { place = (1, 0); symbols = Character 98 ∷ []; inserts = false }) ∷ []
-unfolding removed_before removed_after between_removed yanked moved_ranges
+unfolding removed_before removed_after between_removed yanked moved_ranges settled
 two_lines-undone = refl
 
 -- a new edit drops what was undone
@@ -157,25 +158,25 @@ abbrev replaced_edit : List Call
 replaced_edit = InsertChar 97 ∷ Undo ∷ InsertChar 98 ∷ Redo ∷ []
 
 replaced_edit-results : results_of empty replaced_edit ≡ Done ∷ Flag true ∷ Done ∷ Flag false ∷ []
-unfolding removed_before removed_after between_removed yanked moved_ranges
+unfolding removed_before removed_after between_removed yanked moved_ranges settled
 replaced_edit-results = refl
 
 replaced_edit-text : (reached replaced_edit).document.text ≡ Character 98 ∷ []
-unfolding removed_before removed_after between_removed yanked moved_ranges
+unfolding removed_before removed_after between_removed yanked moved_ranges settled
 replaced_edit-text = refl
 
 -- a carriage return breaks the line
 return-text : (reached (InsertChar 13 ∷ [])).document.text ≡ Break ∷ []
-unfolding removed_before removed_after between_removed yanked moved_ranges
+unfolding removed_before removed_after between_removed yanked moved_ranges settled
 return-text = refl
 
 -- nothing to do
 idle-results : results_of empty (DeleteChar ∷ Undo ∷ Redo ∷ Cut ∷ Paste ∷ []) ≡ Flag false ∷ Flag false ∷ Flag false ∷ Flag false ∷ Flag false ∷ []
-unfolding removed_before removed_after between_removed yanked moved_ranges
+unfolding removed_before removed_after between_removed yanked moved_ranges settled
 idle-results = refl
 
 idle-state : reached (DeleteChar ∷ Undo ∷ Redo ∷ Cut ∷ Paste ∷ []) ≡ empty
-unfolding removed_before removed_after between_removed yanked moved_ranges
+unfolding removed_before removed_after between_removed yanked moved_ranges settled
 idle-state = refl
 
 -- `a`, a break and `b`, all selected and cut: the yank has a line feed for the break
@@ -183,11 +184,11 @@ abbrev calls_that_wrap : List Call
 calls_that_wrap = InsertChar 97 ∷ InsertNewline ∷ InsertChar 98 ∷ SelectAll ∷ Cut ∷ YankText ∷ []
 
 calls_that_wrap-results : results_of empty calls_that_wrap ≡ Done ∷ Done ∷ Done ∷ Done ∷ Flag true ∷ Text (97 ∷ 10 ∷ 98 ∷ []) ∷ []
-unfolding removed_before removed_after between_removed yanked moved_ranges
+unfolding removed_before removed_after between_removed yanked moved_ranges settled
 calls_that_wrap-results = refl
 
 calls_that_wrap-text : (reached calls_that_wrap).document.text ≡ []
-unfolding removed_before removed_after between_removed yanked moved_ranges
+unfolding removed_before removed_after between_removed yanked moved_ranges settled
 calls_that_wrap-text = refl
 
 -- what is typed replaces the selected text, as two edits
@@ -195,7 +196,7 @@ abbrev typed_over : List Call
 typed_over = InsertChar 97 ∷ StartSelection ∷ Move Back ∷ InsertChar 98 ∷ Undo ∷ []
 
 typed_over-text : (reached typed_over).document.text ≡ []
-unfolding removed_before removed_after between_removed yanked moved_ranges
+unfolding removed_before removed_after between_removed yanked moved_ranges settled
 typed_over-text = refl
 
 -- the removal of two symbols after the cursor, one of them a break
@@ -203,7 +204,7 @@ abbrev removed_count : List Call
 removed_count = InsertNewline ∷ InsertChar 97 ∷ Move Head ∷ Move Back ∷ DeleteStr 2 ∷ []
 
 removed_count-yank : (reached removed_count).yank ≡ Break ∷ Character 97 ∷ []
-unfolding removed_before removed_after between_removed yanked moved_ranges
+unfolding removed_before removed_after between_removed yanked moved_ranges settled
 removed_count-yank = refl
 
 -- a mask is returned until it is cleared; before the first drawing there is no caret

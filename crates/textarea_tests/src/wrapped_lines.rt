@@ -1,7 +1,8 @@
 //! Worked cases of the number of wrapped lines, each the contract of a function that does nothing.
 ghost use Rattle.std.specs.Prelude.{◌≡◌, ◌+◌, Bool, Some};
 ghost use Rattle.textarea_tests.specs.WrappedLines.{HoldsForHundred, HoldsForNine, wrapped_so_far, with_redone, with_undone, with_a, with_x_y_z};
-ghost use Rattle.tui_textarea.specs.Prelude.{Down, Scrolling, WrapsNothing, text_and_layout, map_width, Rect, IsRendered, newline_inserted, IsMoved, IsScrolled, next_match, after_search, State};
+ghost use Rattle.tui_textarea.specs.Prelude.{Down, Scrolling, WrapsNothing, text_and_layout, map_width, Rect, IsRendered, newline_inserted, IsMoved, IsScrolled, next_match, after_search, settled, State};
+ghost use Rattle.textarea_data.specs.declared.range.AtomicCursorBias.TheVariants.{Forward};
 ghost use Rattle.textarea_wrap.specs.declared.wrap.WrapMode.TheVariants as mode;
 
 use tui_textarea::laws::{drawn_at_its_width, moves_wrap_nothing};
@@ -52,7 +53,8 @@ pub fn frames_wrap_nothing()
     ensures { (old drawn down scrolled again : State) (area : Rect) (scrolling : Scrolling)
         (at_cursor : Bool) → IsRendered old area drawn →
         IsMoved drawn Down down → IsScrolled down scrolling scrolled →
-        IsRendered (after_search scrolled (next_match scrolled at_cursor)) area again →
+        IsRendered (settled Forward (after_search scrolled (next_match scrolled at_cursor))) area
+        again →
         WrapsNothing drawn.document again.document }
 {
     drawn_at_its_width();

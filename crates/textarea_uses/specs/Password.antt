@@ -1,5 +1,6 @@
 -- What a password field shows.
 use Rattle.std.specs.Prelude.{ℕ, List, [], ◌∷◌, replicate}
+use Rattle.textarea_data.specs.declared.range.AtomicCursorBias.TheVariants.{Forward}
 use Rattle.textarea_screen.specs.declared.screen.buffer.Buffer.{Buffer}
 use Rattle.textarea_screen.specs.declared.screen.rect.Rect.{Rect}
 use Rattle.textarea_text.specs.Place.{Place, line_of}
@@ -9,6 +10,7 @@ use Rattle.tui_textarea.specs.Moves.{gone_to}
 use Rattle.tui_textarea.specs.Rendered.{IsDrawn}
 use Rattle.tui_textarea.specs.Run.{ShowsSame}
 use Rattle.tui_textarea.specs.State.{State, new_state}
+use Rattle.tui_textarea.specs.Units.{settled}
 
 -- the password: the first line
 abbrev pub secret : State → List ℕ
@@ -20,7 +22,7 @@ bullet = 8226
 
 -- a new text area with this number of bullets, and the cursor at this position or the nearest one
 abbrev pub masked : ℕ → Place → State
-masked count cursor = gone_to (new_state (joined (replicate count bullet ∷ []))) cursor
+masked count cursor = settled Forward (gone_to (new_state (joined (replicate count bullet ∷ []))) cursor)
 
 -- the cells are those of such a text area, drawn into the area
 pub record ShowsBullets (count : ℕ) (cursor : Place) (area : Rect) (old new : Buffer) : Type 0 where

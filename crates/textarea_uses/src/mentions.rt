@@ -2,10 +2,11 @@
 //! the text, and that keys make no mention, and change none but by removing it as a whole.
 ghost use Rattle.std.specs.Prelude.{◌≡◌, ◌<◌, ◌↔◌, [], IfOk, IsTrue, if◌then◌else◌, drop, encode_utf8_all, length, string_bytes, take};
 ghost use Rattle.std.specs.Str.{chars};
+ghost use Rattle.textarea_data.specs.declared.range.AtomicCursorBias.TheVariants.{Forward};
 ghost use Rattle.textarea_ranges.specs.Moved.{covered_characters};
 ghost use Rattle.textarea_text.specs.Text.{characters_of, lines, lines_of};
 ghost use Rattle.textarea_uses.specs.Mentions.{HasOnlyNamesOf, names_in, with_mention};
-ghost use Rattle.tui_textarea.specs.Prelude.{AreValid, ranges_accepted};
+ghost use Rattle.tui_textarea.specs.Prelude.{AreValid, ranges_accepted, settled};
 
 use std::alloc::{AllocError, Global};
 use textarea_text::places::line_of;
@@ -34,7 +35,7 @@ impl Note {
         ensures judged { IfOk result (λ marked. IsTrue marked
             ↔ AreValid (lines self.old.area.document.text) (with_mention self.old.area range)) }
         ensures marked { IfOk result (λ marked. self.new.area ≡ (if marked
-            then ranges_accepted self.old.area (with_mention self.old.area range)
+            then settled Forward (ranges_accepted self.old.area (with_mention self.old.area range))
             else self.old.area)) }
         ensures text { self.new.area.document.text ≡ self.old.area.document.text }
     {

@@ -33,7 +33,7 @@ use Rattle.tui_textarea.specs.CallResults.{CallResult, PatternRejected}
 use Rattle.tui_textarea.specs.CallSplices.{OfSplicesOutOfMemory, splices_by, splices_of}
 use Rattle.tui_textarea.specs.Calls.{StateOutOfMemory, call_splices, rejected_ranges, state_after, unguarded_after, unguarded_splices}
 use Rattle.tui_textarea.specs.Drawing.{viewport_scrolled}
-use Rattle.tui_textarea.specs.Guards.{admitted, admitted_between, admitted_for, admitted_over_selection, barred_after, is_barred}
+use Rattle.tui_textarea.specs.Guards.{admitted, admitted_for, admitted_over_selection, admitted_whole, barred_after, is_barred}
 use Rattle.tui_textarea.specs.Input.{IsAfterAction, IsAnyOutOfMemory, asked_by, asked_without_shortcuts, call_of_action}
 use Rattle.tui_textarea.specs.LayoutCalls.{alignment_set, line_numbers_set, mode_set, tab_length_set}
 use Rattle.tui_textarea.specs.Outcomes.{IsAfterCall, IsAfterOutOfMemory, after_pattern}
@@ -43,13 +43,16 @@ use Rattle.tui_textarea.specs.Replacing.{match_at_cursor, replaceable}
 use Rattle.tui_textarea.specs.Search.{after_search, next_match, previous_match}
 use Rattle.tui_textarea.specs.Selection.{IsInsertOutOfMemory, unselected}
 use Rattle.tui_textarea.specs.State.{State}
-use Rattle.tui_textarea.proofs.Cases.{by_both}
+use Rattle.tui_textarea.specs.CallUnits.{bias_of_call, settled_after, settles}
+use Rattle.tui_textarea.specs.Units.{settled, whole_stretch}
+use Rattle.tui_textarea.proofs.Cases.{by_both, by_test}
+use Rattle.tui_textarea.proofs.Settling.{layout_and_ranges, settled_layout, sound_settled}
 use Rattle.tui_textarea.proofs.FoundPlaces.{match_is_place}
 use Rattle.tui_textarea.proofs.Replacing.{all_by, lines_down_by, lines_shifted_by, lines_up_by, match_by, range_by, search_unchanged}
 use Rattle.tui_textarea.proofs.SoundStates.{sound_at, sound_cursor, sound_from, sound_goes, sound_ranges, sound_search, sound_settings, sound_unanchored}
 use Rattle.textarea_document.proofs.UndoGroups.{sound_redo, sound_undo}
-use Rattle.tui_textarea.proofs.Stepping.{Reckoning, after_by, ahead_by, before_by, break_by, char_by, cleared_by, copied_by, cursor_range_by, cut_by, edited, kept, moved}
-use Rattle.tui_textarea.proofs.Stepping.{layout_and_ranges, line_end_by, line_head_by, moves_unchanged, newline_by, selected_by, single_by, str_by, tab_by, unselected_by}
+use Rattle.tui_textarea.proofs.Stepping.{Reckoning, ahead_by, break_by, char_by, cleared_by, copied_by, cursor_range_by, cut_by, edited, kept, moved}
+use Rattle.tui_textarea.proofs.Stepping.{line_end_by, line_head_by, moves_unchanged, newline_by, selected_by, single_by, str_by, symbol_after_by, symbol_before_by, tab_by, unselected_by}
 use Rattle.tui_textarea.proofs.Stepping.{word_after_by, word_before_by}
 use Rattle.tui_textarea.proofs.Targets.{clip_is_place, index_is_place}
 
@@ -79,6 +82,7 @@ pub record Past (Own : Fact) : Type 0 where
   pub undos : (document : DocumentState) → IsSound document → Own document (undo_splices document) (after_undo document)
   pub redos : (document : DocumentState) → IsSound document → Own document (redo_splices document) (after_redo document)
   pub stays : (document : DocumentState) → Own document [] document
+  pub same : (old new other : DocumentState) (splices : List Splice) → layout_and_ranges other ≡ layout_and_ranges new → Own old splices new → Own old splices other
 
 -- ---- calls
 
@@ -128,6 +132,33 @@ module _ (By Own : Fact) (by : Reckoning By) (past : Past Own) where
   ByCallSoundly old made splices new =
       ByState By Own made old.document splices new.document × (CanBeMade made → IsSound new.document)
 
+  -- what is known of a document is known of it with another cursor and anchor
+  same_by : (made : Call) (old new other : DocumentState) (splices : List Splice) → layout_and_ranges other ≡ layout_and_ranges new
+      → ByState By Own made old splices new → ByState By Own made old splices other
+  same_by call.Undo old new other splices same k = past.same old new other splices same k
+  same_by call.Redo old new other splices same k = past.same old new other splices same k
+  same_by (call.Input input) old new other splices same k = tt
+  same_by (call.InputWithoutShortcuts input) old new other splices same k = tt
+  same_by (call.SetLines lines cursor) old new other splices same k = tt
+  same_by (call.SetTabLength columns) old new other splices same k = tt
+  same_by (call.SetWrapMode mode) old new other splices same k = tt
+  same_by (call.SetLineNumberStyle style) old new other splices same k = tt
+  same_by call.RemoveLineNumber old new other splices same k = tt
+  same_by (call.SetAlignment alignment) old new other splices same k = tt
+  same_by (call.TrySetAtomicRanges ranges) old new other splices same k = tt
+  same_by call.ClearAtomicRanges old new other splices same k = tt
+  same_by (call.SetChangeLog unit) old new other splices same k = tt
+  same_by call.TakeChanges old new other splices same k = tt
+  same_by (call.Render area) old new other splices same k = tt
+  same_by made old new other splices same k = by.same old new other splices same k
+
+  settled_by_call : (old new : State) (made : Call) (splices : List Splice) → ByCallSoundly old made splices new → ByCallSoundly old made splices (settled_after made new)
+  settled_by_call old new made splices k =
+      let bias = bias_of_call made in
+      by_test (ByCallSoundly old made splices) (settles made) (settled bias new) new
+      (λ yes. (same_by made old.document new.document (settled bias new).document splices (settled_layout bias new) k.0, λ can. sound_settled bias new (k.1 can)))
+      (λ no. k)
+
   -- a call in a text area that isn't read only
   pub unguarded_by : (old : State) (made : Call) → IsSound old.document → ByCallSoundly old made (unguarded_splices old made) (unguarded_after old made)
   unguarded_by old (call.InsertChar c) h = given _ (char_by By by old c h)
@@ -143,19 +174,23 @@ module _ (By Own : Fact) (by : Reckoning By) (past : Past Own) where
       given _ (moved By by document (after_edit document (selection_duplication document) false old.time) (lines_duplicated document old.time) (selection_duplication document ∷ []) refl
       (sound_duplicated document old.time h) once)
   unguarded_by old call.IndentLines h =
-      given _ (lines_shifted_by By by old.document false (line_stretches old.document false) (tab_of old.document old.settings.hard_tab_indent) old.time h)
-  unguarded_by old call.OutdentLines h = given _ (lines_shifted_by By by old.document true (line_stretches old.document true) [] old.time h)
+      given _ (lines_shifted_by By by old.document None (line_stretches old.document None) (tab_of old.document old.settings.hard_tab_indent) old.time h)
+  unguarded_by old call.OutdentLines h =
+      let by_clusters = Some old.settings.cursor_unit in
+      given _ (lines_shifted_by By by old.document by_clusters (line_stretches old.document by_clusters) [] old.time h)
   unguarded_by old call.MoveLinesUp h = given _ (lines_up_by By by old.document old.time h)
   unguarded_by old call.MoveLinesDown h = given _ (lines_down_by By by old.document old.time h)
-  unguarded_by old (call.ReplaceRange from to text) h = given _ (range_by By by old.document from to (admitted_between old from to (fragment_symbols (chars text.now))) old.time h)
+  unguarded_by old (call.ReplaceRange from to text) h =
+      let ends = whole_stretch old from to in
+      given _ (range_by By by old.document ends.0 ends.1 (admitted_whole old from to (fragment_symbols (chars text.now))) old.time h)
   unguarded_by old (call.ReplaceMatch text) h = given _ (match_by By by old (match_at_cursor old) (admitted_for (match_at_cursor old) old (fragment_symbols (chars text.now))) h)
   unguarded_by old (call.ReplaceAll text) h = given _ (all_by By by old.document (replaceable old) (admitted old (fragment_symbols (chars text.now))) old.time h)
   unguarded_by old (call.DeleteStr count) h = given _ (unselected_by By by old (symbols_ahead_removed old count) _ h (ahead_by By by old count h))
   unguarded_by old call.DeleteNewline h = given _ (unselected_by By by old (break_before_removed old) _ h (break_by By by old.document old.time h))
   unguarded_by old call.DeleteChar h =
-      given _ (unselected_by By by old (symbol_before_removed old) _ h (before_by By by old.document old.settings.undo_coalescing old.time h))
+      given _ (unselected_by By by old (symbol_before_removed old) _ h (symbol_before_by By by old h))
   unguarded_by old call.DeleteNextChar h =
-      given _ (unselected_by By by old (symbol_after_removed old) _ h (after_by By by old.document old.settings.undo_coalescing old.time h))
+      given _ (unselected_by By by old (symbol_after_removed old) _ h (symbol_after_by By by old h))
   unguarded_by old call.DeleteLineByEnd h = given _ (unselected_by By by old (line_end_removed old) _ h (line_end_by By by old h))
   unguarded_by old call.DeleteLineByHead h = given _ (unselected_by By by old (line_head_removed old) _ h (line_head_by By by old h))
   unguarded_by old call.DeleteWord h = given _ (unselected_by By by old (word_before_removed old) _ h (word_before_by By by old h))
@@ -248,8 +283,9 @@ module _ (By Own : Fact) (by : Reckoning By) (past : Past Own) where
   -- a call with the state after it
   pub by_state : (old : State) (made : Call) → IsSound old.document → ByCallSoundly old made (call_splices old made) (state_after old made)
   by_state old made h =
-      by_both (ByCallSoundly old made) (is_barred old made) [] (unguarded_splices old made) (barred_after old made) (unguarded_after old made)
-      (λ barred. barred_by old made h) (λ free. unguarded_by old made h)
+      by_both (ByCallSoundly old made) (is_barred old made) [] (unguarded_splices old made) (barred_after old made) (settled_after made (unguarded_after old made))
+      (λ barred. barred_by old made h)
+      (λ free. settled_by_call old (unguarded_after old made) made (unguarded_splices old made) (unguarded_by old made h))
 
   pub acts_by : (old new : State) (asked : Action) → IsSound old.document → IsAfterAction old asked new
       → ByAct By Own asked old.document (splices_by old asked) new.document
@@ -302,5 +338,6 @@ pub calls_left : (By : Fact) (by : Reckoning By) (old new : State) (made : Call)
 calls_left By by old new made h k =
     ⊎_elim
     (λ same. inl (by.none old.document new.document (ap (λ (s : State). layout_and_ranges s.document) same)))
-    (λ gone. inr (as_outcome By old new (unselected old) (selected_splices old.document) gone (selected_by By by old.document old.time h).0))
+    (λ gone. inr (as_outcome By old new (settled BiasForward (unselected old)) (selected_splices old.document) gone
+    (by.same old.document (unselected old).document (settled BiasForward (unselected old)).document (selected_splices old.document) (settled_layout BiasForward (unselected old)) (selected_by By by old.document old.time h).0)))
     (left old new made k)

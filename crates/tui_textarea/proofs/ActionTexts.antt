@@ -29,7 +29,11 @@ use Rattle.tui_textarea.proofs.EachSymbol.{InsertOnly, only_after_splices, only_
 use Rattle.tui_textarea.proofs.RangesOverActions.{past_follows, reckoning_of}
 use Rattle.tui_textarea.proofs.RangesOverCalls.{TheLaws}
 use Rattle.tui_textarea.proofs.Runs.{OneInput}
-use Rattle.tui_textarea.proofs.Stepping.{layout_and_ranges, selected_by}
+use Rattle.textarea_data.specs.declared.range.AtomicCursorBias.TheVariants.{Forward}
+use Rattle.tui_textarea.specs.Selection.{unselected}
+use Rattle.tui_textarea.specs.Units.{settled}
+use Rattle.tui_textarea.proofs.Settling.{layout_and_ranges, settled_layout}
+use Rattle.tui_textarea.proofs.Stepping.{selected_by}
 
 -- ---- the splices of an action
 
@@ -51,7 +55,8 @@ left_follows laws old new asked sound left =
     ⊎_elim
     (λ same. inl ((reckoning_of laws.edited).none old.document new.document (ap (λ (s : State). layout_and_ranges s.document) same)).0)
     (λ gone. inr (subst (λ (s : State). RangesFollowSplices old.document (selected_splices old.document) s.document) (sym gone)
-    (selected_by RangesStayWhole (reckoning_of laws.edited) old.document old.time sound).0.0))
+    ((reckoning_of laws.edited).same old.document (unselected old).document (settled Forward (unselected old)).document (selected_splices old.document) (settled_layout Forward (unselected old))
+    (selected_by RangesStayWhole (reckoning_of laws.edited) old.document old.time sound).0).0))
     (any_left old new (call_of_action asked) left)
 
 -- ---- symbols

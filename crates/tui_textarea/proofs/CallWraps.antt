@@ -30,6 +30,10 @@ use Rattle.textarea_view.specs.Measure.{width_inside}
 use Rattle.tui_textarea.proofs.Acting.{by_any_act, calls_by, calls_left}
 use Rattle.tui_textarea.proofs.WrappedLines.{RedosWrap, EditsWrap, UndosWrap, past_wraps, reckoned}
 use Rattle.tui_textarea.proofs.Frames.{drawn_document}
+use Rattle.textarea_data.specs.declared.range.AtomicCursorBias.TheVariants.{Forward}
+use Rattle.tui_textarea.specs.Ranges.{ranges_accepted}
+use Rattle.tui_textarea.specs.Units.{settled}
+use Rattle.tui_textarea.proofs.Settling.{LayoutAndRanges, layout_and_ranges, settled_layout}
 
 -- ---- the laws of the text area
 
@@ -48,8 +52,12 @@ abbrev LeftBy : State → State → Type 0
 LeftBy old new = OfSplicesOutOfMemory old (λ splices. SplicedBy old.document splices new.document)
 
 ranges_unchanged : (rejected : List RejectedAtomicRange) (state : State) (ranges : List AtomicRange) → text_and_layout (with_ranges_if rejected state ranges).document ≡ text_and_layout state.document
-ranges_unchanged [] state ranges = refl
+ranges_unchanged [] state ranges = ap (λ (s : LayoutAndRanges). s.0) (settled_layout Forward (ranges_accepted state ranges))
 ranges_unchanged (range ∷ rejected) state ranges = refl
+
+-- all lines are wrapped, whatever the cursor and the anchor are
+all_wrapped_as : (old new other : DocumentState) → layout_and_ranges other ≡ layout_and_ranges new → WrapsAll old new → WrapsAll old other
+all_wrapped_as old new other same wraps = subst (WrapsAllLines (text_and_layout old)) (sym (ap (λ (s : LayoutAndRanges). s.0) same)) wraps
 
 -- lines that are set, or left out
 lines_wrap : (old new set : State) (barred : Bool) → new ≡ cond barred old set → WrapsAll old.document set.document → WrapsAllUnless barred old new
@@ -63,8 +71,10 @@ module _ (laws : TheLaws) where
 
   pub call_wraps : (old new : State) (made : Call) (returned : CallResult) → IsSound old.document → IsAfterCall old made returned new → WrapsByCall old made new
   call_wraps old new (call.SetLines lines cursor) returned h k =
-      lines_wrap old new (with_lines old lines.now cursor) (bars_lines old (lines_of lines.now)) k
-      (laws.lines old.document (text_of lines.now) (clip (lines_of lines.now) cursor) old.document.log.maximum)
+      let set = with_lines old lines.now cursor in
+      lines_wrap old new (settled Forward set) (bars_lines old (lines_of lines.now)) k
+      (all_wrapped_as old.document set.document (settled Forward set).document (settled_layout Forward set)
+      (laws.lines old.document (text_of lines.now) (clip (lines_of lines.now) cursor) old.document.log.maximum))
   call_wraps old new (call.SetTabLength columns) returned h k = set old new (with_layout old (tab_length_set old columns)) (tab_length_set old columns) (ap (λ (s : State). s.document) k) refl
   call_wraps old new (call.SetWrapMode mode) returned h k = set old new (with_layout old (mode_set old mode)) (mode_set old mode) (ap (λ (s : State). s.document) k) refl
   call_wraps old new (call.SetLineNumberStyle style) returned h k = set old new (with_layout old (line_numbers_set old true)) (line_numbers_set old true) (ap (λ (s : State). s.document) k) refl

@@ -26,7 +26,11 @@ use Rattle.tui_textarea.specs.State.{State}
 use Rattle.tui_textarea.proofs.Acting.{Past, by_any_act, calls_by, calls_left}
 use Rattle.tui_textarea.proofs.Cases.{by_test}
 use Rattle.tui_textarea.proofs.Frames.{drawn_document}
-use Rattle.tui_textarea.proofs.Stepping.{LayoutAndRanges, Reckoning, layout_and_ranges}
+use Rattle.textarea_data.specs.declared.range.AtomicCursorBias.TheVariants.{Forward}
+use Rattle.tui_textarea.specs.Ranges.{ranges_accepted}
+use Rattle.tui_textarea.specs.Units.{settled}
+use Rattle.tui_textarea.proofs.Settling.{LayoutAndRanges, layout_and_ranges, settled_layout, settled_text}
+use Rattle.tui_textarea.proofs.Stepping.{Reckoning}
 
 -- ---- the laws of documents
 
@@ -48,7 +52,9 @@ unchanged old new outcome is text changes =
     no_change_leads old.document new.document (ap (λ (s : State). s.document.text) is ∙ text) (ap (λ (s : State). s.document.changes) is ∙ changes)
 
 set_ranges : (old new : State) (ranges : List AtomicRange) (rejected : List RejectedAtomicRange) → new ≡ with_ranges_if rejected old ranges → ChangesLead old.document new.document
-set_ranges old new ranges [] k = unchanged old new _ k refl refl
+set_ranges old new ranges [] k =
+    let accepted = ranges_accepted old ranges in
+    unchanged old new (settled Forward accepted) k (settled_text Forward accepted) (ap (λ (s : LayoutAndRanges). s.2) (settled_layout Forward accepted))
 set_ranges old new ranges (range ∷ rejected) k = unchanged old new old k refl refl
 
 -- ---- what a call returns
@@ -118,7 +124,7 @@ module _ (laws : TheLaws) where
   }
 
   past : Past Logs
-  past = record { undos = laws.undone; redos = laws.redone; stays = λ document. stays document document refl }
+  past = record { undos = laws.undone; redos = laws.redone; stays = λ document. stays document document refl; same = reckoned.same }
 
   -- any call but the two of the log
   leads : (old new : State) (made : Call) (returned : CallResult) → (¬ SetsLog made) → (¬ Takes made) → IsSound old.document → IsAfterCall old made returned new → ChangesLead old.document new.document
@@ -126,8 +132,10 @@ module _ (laws : TheLaws) where
   leads old new call.TakeChanges returned sets takes h k = absurd (takes tt)
   leads old new (call.SetLines items cursor) returned sets takes h k =
       subst (λ (s : State). ChangesLead old.document s.document) (sym k)
-      (by_test (λ (s : State). ChangesLead old.document s.document) (bars_lines old (lines_of items.now)) old (with_lines old items.now cursor)
-      (λ barred. stays old.document old.document refl) (λ set. laws.lines old.document (lines_of items.now) cursor))
+      (by_test (λ (s : State). ChangesLead old.document s.document) (bars_lines old (lines_of items.now)) old (settled Forward (with_lines old items.now cursor))
+      (λ barred. stays old.document old.document refl)
+      (λ set. reckoned.same old.document (with_lines old items.now cursor).document (settled Forward (with_lines old items.now cursor)).document [] (settled_layout Forward (with_lines old items.now cursor))
+      (laws.lines old.document (lines_of items.now) cursor)))
   leads old new (call.SetTabLength columns) returned sets takes h k = unchanged old new _ k refl refl
   leads old new (call.SetWrapMode mode) returned sets takes h k = unchanged old new _ k refl refl
   leads old new (call.SetLineNumberStyle style) returned sets takes h k = unchanged old new _ k refl refl

@@ -19,7 +19,8 @@ use Rattle.tui_textarea.specs.Fitting.{fitting_count}
 use Rattle.tui_textarea.specs.LayoutCalls.{tab_length}
 use Rattle.tui_textarea.specs.Removals.{cursor_line, in_line, is_at_line_end}
 use Rattle.tui_textarea.specs.Selection.{unselected}
-use Rattle.tui_textarea.specs.Splices.{line_end_splices, line_head_splices, selected_splices_or, str_splices, word_after_splices, word_before_splices}
+use Rattle.tui_textarea.specs.Splices.{line_end_splices, line_head_splices, selected_splices_or, splices_from, splices_up_to, str_splices, symbol_after_splices, symbol_before_splices, whole_range_splices_or, word_after_splices, word_before_splices}
+use Rattle.tui_textarea.specs.Units.{earlier_start, later_end, whole_end, whole_start}
 use Rattle.tui_textarea.specs.State.{State}
 
 -- each splice that inserts, inserts only such symbols
@@ -117,18 +118,37 @@ only_tab P state tab space =
     (only_str P state (Character 9 ∷ []) (All-cons P (Character 9) [] tab (All-nil P)))
     (only_str P state spaces (All-replicate P (fitting_count left.settings.max_chars (length left.document.text) (spaces_to_stop left.document (tab_length state.document))) (Character 32) space)))
 
+only_whole_range_or : (P : Symbol → Type 0) (found : Option AtomicRange) (state : State) (other : List Splice) → InsertOnly P other → InsertOnly P (whole_range_splices_or found state other)
+only_whole_range_or P None state other h = h
+only_whole_range_or P (Some range) state other h = only_removal P state.document (whole_start state (range_start range)) (whole_end state (range_end range))
+
+only_from : (P : Symbol → Type 0) (found : Option Place) (document : DocumentState) → InsertOnly P (splices_from found document)
+only_from P None document = only_before P document
+only_from P (Some start) document = only_removal P document start document.cursor
+
+only_up_to : (P : Symbol → Type 0) (found : Option Place) (document : DocumentState) → InsertOnly P (splices_up_to found document)
+only_up_to P None document = only_after P document
+only_up_to P (Some stop) document = only_removal P document document.cursor stop
+
+only_symbol_after : (P : Symbol → Type 0) (state : State) → InsertOnly P (symbol_after_splices state)
+only_symbol_after P state = only_up_to P (later_end state) state.document
+
 pub only_delete_char : (P : Symbol → Type 0) (state : State) → InsertOnly P (unguarded_splices state call.DeleteChar)
-only_delete_char P state = only_selected_or P state.document (before_splices state.document) (only_before P state.document)
+only_delete_char P state = only_selected_or P state.document (symbol_before_splices state) (only_from P (earlier_start state) state.document)
 
 pub only_delete_next_char : (P : Symbol → Type 0) (state : State) → InsertOnly P (unguarded_splices state call.DeleteNextChar)
-only_delete_next_char P state = only_selected_or P state.document (after_splices state.document) (only_after P state.document)
+only_delete_next_char P state = only_selected_or P state.document (symbol_after_splices state) (only_symbol_after P state)
+
+-- up to a position of the line, or at its end the symbol after it
+only_on_to : (P : Symbol → Type 0) (state : State) (to : Place)
+    → InsertOnly P (cond (is_at_line_end state.document) (symbol_after_splices state) (removal_splices state.document state.document.cursor to))
+only_on_to P state to =
+    only-if P (is_at_line_end state.document) (symbol_after_splices state) (removal_splices state.document state.document.cursor to) (only_symbol_after P state)
+    (only_removal P state.document state.document.cursor to)
 
 pub only_line_end : (P : Symbol → Type 0) (state : State) → InsertOnly P (unguarded_splices state call.DeleteLineByEnd)
 only_line_end P state =
-    let document = state.document in
-    let to = in_line document (length (cursor_line document)) in
-    only_selected_or P document (line_end_splices document)
-    (only-if P (is_at_line_end document) (after_splices document) (removal_splices document document.cursor to) (only_after P document) (only_removal P document document.cursor to))
+    only_selected_or P state.document (line_end_splices state) (only_on_to P state (in_line state.document (length (cursor_line state.document))))
 
 pub only_line_head : (P : Symbol → Type 0) (state : State) → InsertOnly P (unguarded_splices state call.DeleteLineByHead)
 only_line_head P state = only_selected_or P state.document (line_head_splices state.document) (only_back_to P state.document (in_line state.document 0))
@@ -136,14 +156,13 @@ only_line_head P state = only_selected_or P state.document (line_head_splices st
 pub only_word_before : (P : Symbol → Type 0) (state : State) → InsertOnly P (unguarded_splices state call.DeleteWord)
 only_word_before P state =
     let document = state.document in
-    let from = in_line document (word_start_before (cursor_line document) document.cursor.1) in
-    only_selected_or P document (word_before_splices document)
-    (only_range_or P (range_before document) document (cond (document.cursor.1 == 0) (break_splices document) (removal_splices document from document.cursor)) (only_back_to P document from))
+    let from = whole_start state (in_line document (word_start_before (cursor_line document) document.cursor.1)) in
+    only_selected_or P document (word_before_splices state)
+    (only_whole_range_or P (range_before document) state (cond (document.cursor.1 == 0) (break_splices document) (removal_splices document from document.cursor)) (only_back_to P document from))
 
 pub only_word_after : (P : Symbol → Type 0) (state : State) → InsertOnly P (unguarded_splices state call.DeleteNextWord)
 only_word_after P state =
     let document = state.document in
-    let to = in_line document (word_end_after (cursor_line document) document.cursor.1) in
-    only_selected_or P document (word_after_splices document)
-    (only_range_or P (range_after document) document (cond (is_at_line_end document) (after_splices document) (removal_splices document document.cursor to))
-    (only-if P (is_at_line_end document) (after_splices document) (removal_splices document document.cursor to) (only_after P document) (only_removal P document document.cursor to)))
+    let to = whole_end state (in_line document (word_end_after (cursor_line document) document.cursor.1)) in
+    only_selected_or P document (word_after_splices state)
+    (only_whole_range_or P (range_after document) state (cond (is_at_line_end document) (symbol_after_splices state) (removal_splices document document.cursor to)) (only_on_to P state to))

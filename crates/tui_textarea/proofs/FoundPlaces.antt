@@ -13,9 +13,10 @@ use Rattle.textarea_search.specs.Columns.{column_of_byte}
 use Rattle.textarea_search.specs.Matches.{match_columns, match_spans}
 use Rattle.textarea_search.specs.Starts.{along, is_ahead, starts_from}
 use Rattle.textarea_search.specs.declared.search.direction.Direction.{Direction}
-use Rattle.tui_textarea.specs.Search.{found_match, starts_in}
+use Rattle.tui_textarea.specs.Search.{found_match, match_starts, starts_in}
 use Rattle.tui_textarea.specs.State.{State}
 use Rattle.tui_textarea.proofs.Cases.{by_test}
+use Rattle.tui_textarea.proofs.WholeStarts.{unit_all}
 use Rattle.textarea_search.proofs.ColumnLemmas.{All-along}
 
 -- ---- the number of characters in the first bytes of a line
@@ -139,10 +140,18 @@ one_has : {X : Type 0} (P : X → Type 0) (one other : Option X) → IfSome one 
 one_has P None other h k = k
 one_has P (Some x) other h k = h
 
+match_starts_are_in_text : (state : State) → All (IsPlace state.document.text) (match_starts state)
+match_starts_are_in_text state =
+    unit_all (IsPlace state.document.text) state.settings.cursor_unit state.pattern state.document.text (starts_are_in_text state.pattern state.document.text)
+
+-- what is known of all starts is known of the one that is found
+pub found_of_all : (P : Place → Type 0) (direction : Direction) (state : State) (at_cursor : Bool) → All P (match_starts state) → IfSome (found_match direction state at_cursor) P
+found_of_all P direction state at_cursor all =
+    let starts = along direction (match_starts state) in
+    let each = All-along P direction (match_starts state) all in
+    one_has P (find (is_ahead direction state.document.cursor at_cursor) starts) (slice_get starts 0)
+    (found_has P (is_ahead direction state.document.cursor at_cursor) starts each) (first_has P starts each)
+
 pub match_is_place : (direction : Direction) (state : State) (at_cursor : Bool) → IfSome (found_match direction state at_cursor) (IsPlace state.document.text)
 match_is_place direction state at_cursor =
-    let in_text = IsPlace state.document.text in
-    let starts = along direction (starts_in state.pattern state.document.text) in
-    let all = All-along in_text direction (starts_in state.pattern state.document.text) (starts_are_in_text state.pattern state.document.text) in
-    one_has in_text (find (is_ahead direction state.document.cursor at_cursor) starts) (slice_get starts 0)
-    (found_has in_text (is_ahead direction state.document.cursor at_cursor) starts all) (first_has in_text starts all)
+    found_of_all (IsPlace state.document.text) direction state at_cursor (match_starts_are_in_text state)

@@ -25,8 +25,9 @@ use Rattle.textarea_data.specs.declared.measure.TextAreaMeasure.{TextAreaMeasure
 use Rattle.tui_textarea.specs.Drawing.{IsRendered, widget_of}
 use Rattle.tui_textarea.specs.Frames.{HasLayoutFor}
 use Rattle.tui_textarea.specs.Measure.{IsMeasured, IsMeasuredAround}
-use Rattle.tui_textarea.specs.Moves.{IsMovedWith, after_move_by, pushed}
+use Rattle.tui_textarea.specs.Moves.{IsMovedWith, after_move_by, bias_of, pushed}
 use Rattle.tui_textarea.specs.State.{State}
+use Rattle.tui_textarea.proofs.Settling.{LayoutAndRanges, settled_as, settled_layout}
 
 -- ---- the laws of lines
 
@@ -79,11 +80,17 @@ moved_surround state shift (Some place) = refl
 
 pub layout_moved : (old new : State) (shift : Bool) (cursor_move : CursorMove) → IsMovedWith old shift cursor_move new → new.document.layout ≡ old.document.layout
 layout_moved old new shift cursor_move h =
-    ap (λ (s : State). s.document.layout) h.new_is ∙ moved_layout old shift (pushed old.document.ranges cursor_move h.found)
+    let found = pushed old.document.ranges cursor_move h.found in
+    ap (λ (s : State). s.document.layout) h.new_is
+    ∙ ap (λ (s : LayoutAndRanges). s.0.layout) (settled_layout (bias_of cursor_move) (after_move_by old shift found))
+    ∙ moved_layout old shift found
 
 surround_moved : (old new : State) (shift : Bool) (cursor_move : CursorMove) → IsMovedWith old shift cursor_move new → new.surround ≡ old.surround
 surround_moved old new shift cursor_move h =
-    ap (λ (s : State). s.surround) h.new_is ∙ moved_surround old shift (pushed old.document.ranges cursor_move h.found)
+    let found = pushed old.document.ranges cursor_move h.found in
+    ap (λ (s : State). s.surround) h.new_is
+    ∙ ap (λ (s : State). s.surround) (settled_as (bias_of cursor_move) (after_move_by old shift found))
+    ∙ moved_surround old shift found
 
 pub width_moved : (old new : State) (shift : Bool) (cursor_move : CursorMove) (width : ℕ) → IsMovedWith old shift cursor_move new → HasLayoutFor old width → HasLayoutFor new width
 width_moved old new shift cursor_move width h put =

@@ -19,6 +19,9 @@ use Rattle.tui_textarea.specs.Grouping.{call_begun, call_ended, closed_if, opens
 use Rattle.tui_textarea.specs.LayoutCalls.{tab_length}
 use Rattle.tui_textarea.specs.Selection.{IsInsertOutOfMemory, selection_cancelled, unselected}
 use Rattle.tui_textarea.specs.Splices.{char_splices, str_splices, tab_splices}
+use Rattle.textarea_data.specs.declared.range.AtomicCursorBias.TheVariants.{Forward}
+use Rattle.tui_textarea.specs.Units.{settled}
+use Rattle.tui_textarea.proofs.Settling.{closed_settled}
 use Rattle.tui_textarea.specs.State.{State, with_document}
 
 -- ---- the removal of the selected text
@@ -145,7 +148,7 @@ pub left_closed : (old new : State) → IsInsertOutOfMemory (call_begun old) new
 left_closed old new h =
     ⊎_elim
     (λ same. inl (ap (call_ended old) same ∙ begun_closed old))
-    (λ gone. inr (ap (call_ended old) gone ∙ unselected_closed old))
+    (λ gone. inr (ap (call_ended old) gone ∙ closed_settled (opens_group old) Forward (unselected (call_begun old)) ∙ ap (settled Forward) (unselected_closed old)))
     h
 
 -- and the same if after it a step is made that has nothing to do with the log
@@ -181,9 +184,10 @@ tab_none old none =
 
 -- a call that succeeds
 pub ended_ok : {T E : Type 0} (r : Result T E) (step : State → State) (old mid : State) {begun new : State} {opens : Bool} → opens ≡ opens_group old → begun ≡ call_begun old →
-    new ≡ closed_if opens mid → OnOk r (mid ≡ step begun) → OnOk r (new ≡ call_ended old (step (call_begun old)))
+    new ≡ closed_if opens mid → OnOk r (mid ≡ settled Forward (step begun)) → OnOk r (new ≡ settled Forward (call_ended old (step (call_begun old))))
 ended_ok (Ok x) step old mid {opens = opens} opens_is begun_is new_is h =
-    new_is ∙ ap (closed_if opens) (h ∙ ap step begun_is) ∙ ap (λ (b : Bool). closed_if b (step (call_begun old))) opens_is
+    new_is ∙ ap (closed_if opens) (h ∙ ap (λ (s : State). settled Forward (step s)) begun_is) ∙ ap (λ (b : Bool). closed_if b (settled Forward (step (call_begun old)))) opens_is
+    ∙ closed_settled (opens_group old) Forward (step (call_begun old))
 ended_ok (Err e) step old mid opens_is begun_is new_is h = h
 
 -- one that runs out of memory

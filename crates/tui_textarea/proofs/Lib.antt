@@ -14,6 +14,7 @@ pub mod Ahead
 pub mod Copying
 mod Filled
 pub mod Grouping
+mod SettledUndos
 mod UndoneAtOnce
 mod GroupsOfCalls
 mod ReplacedAtOnce
@@ -34,10 +35,15 @@ mod OneAct
 mod Removing
 mod Targets
 mod FoundPlaces
+mod WholeStarts
 mod StaysSound
+mod SettledCalls
+mod SettledRuns
 mod SoundStates
 mod TextFailures
 mod Cases
+pub mod Settling
+pub mod WholeRemovals
 mod WrappedLines
 mod Stepping
 mod Replacing

@@ -27,7 +27,9 @@ use Rattle.textarea_search.proofs.ListedLemmas.{leftmost_boundary, next_found}
 use Rattle.textarea_text.specs.Place.{Place}
 use Rattle.textarea_text.specs.Text.{Symbol, lines, lines_of}
 use Rattle.tui_textarea.specs.Matches.{AreInTextOrder}
-use Rattle.tui_textarea.specs.Search.{starts_in}
+use Rattle.tui_textarea.specs.Search.{match_starts, starts_in}
+use Rattle.tui_textarea.specs.State.{State}
+use Rattle.tui_textarea.proofs.WholeStarts.{unit_order}
 use Rattle.tui_textarea.proofs.Searches.{bytes_of}
 
 -- the numbers rise strictly, from this one on
@@ -164,3 +166,8 @@ starts_sorted None text rows is = tt
 starts_sorted (Some pattern) text rows is =
     subst (λ (bytes : List (List ℕ)). AreInTextOrder (starts_from (match_columns pattern) 0 bytes)) (bytes_of rows ∙ ap (map encode_utf8_all) is)
     (sorted_from (match_columns pattern) 0 rows (columns_rise pattern))
+
+-- so are those that count
+pub match_starts_sorted : (state : State) (rows : List (String Global)) → lines_of rows ≡ lines state.document.text → AreInTextOrder (match_starts state)
+match_starts_sorted state rows is =
+    unit_order state.settings.cursor_unit state.pattern state.document.text (starts_sorted state.pattern state.document.text rows is)

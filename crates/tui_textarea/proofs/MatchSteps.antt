@@ -8,7 +8,7 @@ use Rattle.std.proofs.lemmas.List.Elements.{All-head, All-tail}
 use Rattle.textarea_search.specs.Starts.{find_or_first, is_later}
 use Rattle.textarea_text.specs.Place.{Place}
 use Rattle.tui_textarea.specs.Matches.{AreInTextOrder, LeadsToFirstMatch, LeadsToMatchAfter}
-use Rattle.tui_textarea.specs.Search.{starts_in}
+use Rattle.tui_textarea.specs.Search.{match_starts}
 use Rattle.tui_textarea.specs.State.{State}
 
 first_later : (place : Place) (xs : List Place) → All (λ other. is_later place false other ≡ true) xs → find (is_later place false) xs ≡ slice_get xs 0
@@ -44,7 +44,7 @@ step_found : (front : List Place) (place : Place) (back : List Place) → AreInT
 step_found front place [] sorted = ap (λ found. option_or found (slice_get (front ++ place ∷ []) 0)) (next_found front place [] sorted)
 step_found front place (next ∷ rest) sorted = ap (λ found. option_or found (slice_get (front ++ place ∷ next ∷ rest) 0)) (next_found front place (next ∷ rest) sorted)
 
-pub match_after : (state : State) → AreInTextOrder (starts_in state.pattern state.document.text) → LeadsToMatchAfter state
+pub match_after : (state : State) → AreInTextOrder (match_starts state) → LeadsToMatchAfter state
 match_after state sorted front back is =
     let cursor = state.document.cursor in
     ap (find_or_first (is_later cursor false)) is ∙ step_found front cursor back (subst AreInTextOrder is sorted)
@@ -55,5 +55,5 @@ same_or (Some place) = refl
 
 pub first_match : (state : State) → LeadsToFirstMatch state
 first_match state at_start =
-    let starts = starts_in state.pattern state.document.text in
+    let starts = match_starts state in
     ap (λ (place : Place). find_or_first (is_later place true) starts) at_start ∙ ap (λ found. option_or found (slice_get starts 0)) (first_found starts) ∙ same_or (slice_get starts 0)

@@ -13,7 +13,8 @@ use Rattle.tui_textarea.specs.Drawing.{IsRendered}
 use Rattle.tui_textarea.specs.State.{State}
 use Rattle.tui_textarea.proofs.Frames.{drawn_document}
 use Rattle.tui_textarea.proofs.Acting.{Past}
-use Rattle.tui_textarea.proofs.Stepping.{Reckoning, LayoutAndRanges, layout_and_ranges}
+use Rattle.tui_textarea.proofs.Settling.{LayoutAndRanges, layout_and_ranges}
+use Rattle.tui_textarea.proofs.Stepping.{Reckoning}
 
 -- the law of documents for an edit, an undo and a redo
 abbrev pub EditsGo : Type 0
@@ -30,14 +31,14 @@ still : (old new : DocumentState) → layout_and_ranges new ≡ layout_and_range
 still old new same = stays old new (ap (λ (s : LayoutAndRanges). s.0.text) same) (ap (λ (s : LayoutAndRanges). s.1) same)
 
 -- a document with the text and ranges of another is reached by the same splices
+followed_as : (old new other : DocumentState) (splices : List Splice) → layout_and_ranges other ≡ layout_and_ranges new → RangesFollowSplices old splices new → RangesFollowSplices old splices other
+followed_as old new other splices same h = record {
+  text = subst (λ t. IsTextBefore old.text t splices) (sym (ap (λ (s : LayoutAndRanges). s.0.text) same)) h.text;
+  ranges = ap (λ (s : LayoutAndRanges). s.1) same ∙ h.ranges;
+}
+
 follows_as : (old new other : DocumentState) (splices : List Splice) → layout_and_ranges other ≡ layout_and_ranges new → RangesStayWhole old splices new → RangesStayWhole old splices other
-follows_as old new other splices same h = (
-  record {
-    text = subst (λ t. IsTextBefore old.text t splices) (sym (ap (λ (s : LayoutAndRanges). s.0.text) same)) h.0.text;
-    ranges = ap (λ (s : LayoutAndRanges). s.1) same ∙ h.0.ranges;
-  },
-  h.1,
-)
+follows_as old new other splices same h = (followed_as old new other splices same h.0, h.1)
 
 pub reckoning_of : EditsGo → Reckoning RangesStayWhole
 reckoning_of edits = record { none = still; same = follows_as; two = ranges_stay_on; one = edits }
@@ -52,4 +53,4 @@ ranges_stay_in_drawing old new area h =
 -- ---- calls
 
 pub past_follows : UndosGo → RedosGo → Past RangesFollowSplices
-past_follows undos redos = record { undos = undos; redos = redos; stays = λ document. (stays document document refl refl).0 }
+past_follows undos redos = record { undos = undos; redos = redos; stays = λ document. (stays document document refl refl).0; same = followed_as }

@@ -21,6 +21,10 @@ use Rattle.tui_textarea.specs.CallResults.{CallResult, Done}
 use Rattle.tui_textarea.specs.CallSplices.{OfSplicesOutOfMemory, splices_of, splices_by}
 use Rattle.textarea_calls.specs.declared.call.Call.{Call}
 use Rattle.textarea_calls.specs.declared.call.Call.TheVariants as call
+use Rattle.textarea_data.specs.declared.range.AtomicCursorBias.TheVariants.{Forward}
+use Rattle.tui_textarea.specs.Ranges.{ranges_accepted}
+use Rattle.tui_textarea.specs.Units.{settled}
+use Rattle.tui_textarea.proofs.Settling.{settled_ranges, settled_text}
 use Rattle.tui_textarea.proofs.Cases.{by_test}
 use Rattle.tui_textarea.proofs.Acting.{ByAct, ByCall, acts_by, calls_by, calls_left}
 use Rattle.tui_textarea.proofs.RangesOverActions.{RedosGo, EditsGo, UndosGo, ranges_stay_in_drawing, reckoning_of, past_follows}
@@ -43,7 +47,10 @@ set_ranges : (old new : State) (ranges : Bor (List AtomicRange)) (rejected : Lis
     → returned ≡ ranges_result rejected → new ≡ with_ranges_if rejected old ranges.now → RangesFollowCall old (call.TrySetAtomicRanges ranges) returned new
 set_ranges old new ranges [] returned e k =
     subst (λ (a : CallResult). RangesFollowCall old (call.TrySetAtomicRanges ranges) a new) (sym e)
-    (record { text = ap (λ (s : State). s.document.text) k; ranges = ap (λ (s : State). s.document.ranges) k })
+    (record {
+      text = ap (λ (s : State). s.document.text) k ∙ settled_text Forward (ranges_accepted old ranges.now);
+      ranges = ap (λ (s : State). s.document.ranges) k ∙ settled_ranges Forward (ranges_accepted old ranges.now);
+    })
 set_ranges old new ranges (range ∷ rejected) returned e k =
     subst (λ (a : CallResult). RangesFollowCall old (call.TrySetAtomicRanges ranges) a new) (sym e) (unchanged old new old k refl refl)
 
@@ -75,7 +82,9 @@ module _ (laws : TheLaws) where
   ranges_follow old new made returned h k = calls_by RangesStayWhole RangesFollowSplices (reckoning_of laws.edited) (past_follows laws.undone laws.redone) old new made returned h k
 
   pub ranges_follow_call : (old new : State) (made : Call) (returned : CallResult) → IsSound old.document → IsResultOf old made returned → IsAfterCall old made returned new → RangesFollowCall old made returned new
-  ranges_follow_call old new (call.SetLines lines cursor) returned h e k = lines_set old new (with_lines old lines.now cursor) (bars_lines old (lines_of lines.now)) refl k
+  ranges_follow_call old new (call.SetLines lines cursor) returned h e k =
+      let set = with_lines old lines.now cursor in
+      lines_set old new (settled Forward set) (bars_lines old (lines_of lines.now)) (settled_ranges Forward set) k
   ranges_follow_call old new call.ClearAtomicRanges returned h e k = ap (λ (s : State). s.document.ranges) k
   ranges_follow_call old new (call.TrySetAtomicRanges ranges) returned h e k = set_ranges old new ranges (rejected_ranges old ranges.now) returned e k
   ranges_follow_call old new (call.SetTabLength columns) returned h e k = unchanged old new _ k refl refl

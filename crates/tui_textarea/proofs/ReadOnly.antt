@@ -8,6 +8,7 @@ use Rattle.textarea_calls.specs.declared.action.Action.TheVariants as action
 use Rattle.textarea_calls.specs.declared.call.Call.{Call}
 use Rattle.textarea_calls.specs.declared.call.Call.TheVariants as call
 use Rattle.tui_textarea.specs.CallResults.{CallResult}
+use Rattle.tui_textarea.specs.CallUnits.{settled_after}
 use Rattle.tui_textarea.specs.Calls.{state_after, unguarded_after}
 use Rattle.tui_textarea.specs.Guards.{SetsLines, barred_after, is_barred, is_left_out, is_editable}
 use Rattle.tui_textarea.specs.Input.{IsAfterAction, asked_by, asked_without_shortcuts}
@@ -37,7 +38,7 @@ barred_stays state made = refl
 
 stays : (state : State) (made : Call) → edits made ≡ true → IsReadOnly state → (¬ SetsLines made) → SameText state (state_after state made)
 stays state made e read_only others =
-    ap text (cond-true (is_barred state made) (barred_after state made) (unguarded_after state made) (barred state made e read_only others)) ∙ barred_stays state made
+    ap text (cond-true (is_barred state made) (barred_after state made) (settled_after made (unguarded_after state made)) (barred state made e read_only others)) ∙ barred_stays state made
 
 act_stays : (state new : State) (asked : Action) → may_change_text asked ≡ true → IsReadOnly state → IsAfterAction state asked new → SameText state new
 act_stays state new action.Nothing e read_only after = absurd (false≢true e)

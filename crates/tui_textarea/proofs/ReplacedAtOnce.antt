@@ -23,8 +23,11 @@ use Rattle.textarea_document.specs.Splices.{insertion_splices}
 use Rattle.textarea_document.proofs.Orders.{index_before}
 use Rattle.textarea_document.proofs.Sounds.{sound_begun, sound_edited, start_is_place}
 use Rattle.textarea_document.proofs.StepLaw.{step_keeps}
+use Rattle.tui_textarea.specs.CallUnits.{settled_after}
+use Rattle.tui_textarea.proofs.SettledUndos.{undo_after_call}
+use Rattle.tui_textarea.specs.Units.{whole_stretch}
 use Rattle.tui_textarea.specs.Calls.{call_splices, state_after, unguarded_after, unguarded_splices}
-use Rattle.tui_textarea.specs.Guards.{admitted, admitted_between, admitted_for, barred_after, is_barred}
+use Rattle.tui_textarea.specs.Guards.{admitted, admitted_whole, admitted_for, barred_after, is_barred}
 use Rattle.tui_textarea.specs.GroupLaw.{IsReplacement, IsReplacementUndoneAtOnce, MakesFewEdits}
 use Rattle.tui_textarea.specs.Replacing.{end_of_match, is_empty_match, match_at_cursor, match_replaced_by, match_splices_by, replaceable, start_of_match, with_range_replaced}
 use Rattle.tui_textarea.specs.Search.{after_search, next_match}
@@ -215,8 +218,9 @@ module _ (state : State) (sound : IsSound state.document) (closed : is_open stat
 
   unguarded_call : (made : Call) → IsReplacement made → 0 < length (unguarded_splices state made) → length (unguarded_splices state made) ≤ state.document.log.maximum → Back state (unguarded_after state made)
   unguarded_call (call.ReplaceRange from to text) is some room =
-      let symbols = admitted_between state from to (fragment_symbols (chars text.now)) in
-      range_back from to symbols (with_range_replaced state from to symbols) (unguarded_stays_sound state (call.ReplaceRange from to text) sound tt) (record { text_is = refl; done = refl; marks = refl }) some room
+      let ends = whole_stretch state from to in
+      let symbols = admitted_whole state from to (fragment_symbols (chars text.now)) in
+      range_back ends.0 ends.1 symbols (with_range_replaced state ends.0 ends.1 symbols) (unguarded_stays_sound state (call.ReplaceRange from to text) sound tt) (record { text_is = refl; done = refl; marks = refl }) some room
   unguarded_call (call.ReplaceMatch text) is some room =
       match_back (match_at_cursor state) (admitted_for (match_at_cursor state) state (fragment_symbols (chars text.now))) (unguarded_stays_sound state (call.ReplaceMatch text) sound tt) some room
   unguarded_call (call.ReplaceAll text) is some room =
@@ -226,7 +230,8 @@ module _ (state : State) (sound : IsSound state.document) (closed : is_open stat
   by_call : (made : Call) → IsReplacement made → 0 < length (call_splices state made) → length (call_splices state made) ≤ state.document.log.maximum → Back state (state_after state made)
   by_call made is =
       by_both (λ (splices : List Splice) (new : State). 0 < length splices → length splices ≤ state.document.log.maximum → Back state new) (is_barred state made) [] (unguarded_splices state made)
-      (barred_after state made) (unguarded_after state made) (λ barred some room. absurd (omega (arith, some))) (λ free. unguarded_call made is)
+      (barred_after state made) (settled_after made (unguarded_after state made)) (λ barred some room. absurd (omega (arith, some)))
+      (λ free some room. undo_after_call made (unguarded_after state made) ∙ unguarded_call made is some room)
 
 pub replacement_undone_at_once : (state : State) (made : Call) → IsSound state.document → IsReplacement made → IsReplacementUndoneAtOnce state made
 replacement_undone_at_once state made sound is closed some room = by_call state sound closed made is some room

@@ -1,5 +1,6 @@
 -- Replacements lead by their splices to sound documents.
 use Rattle.std.proofs.Common.{◌≡◌, ◌<◌, ℕ, ◌+◌, ◌-◌, ◌==◌, Bool, true, false, List, [], ◌∷◌, ◌++◌, length, Option, None, Some, IfSome, option_map, ap, arith, refl, sym, not}
+use Rattle.textarea_data.specs.declared.cursor.CursorUnit.{CursorUnit}
 use Rattle.textarea_text.specs.Between.{clip}
 use Rattle.textarea_text.specs.Place.{IsPlace, Place, is_before, line_end, line_of}
 use Rattle.textarea_text.specs.Splice.{Splice}
@@ -27,7 +28,8 @@ use Rattle.tui_textarea.specs.State.{State, with_document}
 use Rattle.tui_textarea.proofs.Cases.{by_both, by_test}
 use Rattle.tui_textarea.proofs.FoundPlaces.{match_is_place}
 use Rattle.tui_textarea.proofs.SoundStates.{clipped, sound_at, sound_from, sound_search}
-use Rattle.tui_textarea.proofs.Stepping.{Reckoning, between_by, kept, layout_and_ranges, moved, symbols_by}
+use Rattle.tui_textarea.proofs.Settling.{layout_and_ranges}
+use Rattle.tui_textarea.proofs.Stepping.{Reckoning, between_by, kept, moved, symbols_by}
 use Rattle.tui_textarea.proofs.Targets.{clip_is_place, index_is_place}
 
 -- a search leaves text, layout and ranges unchanged
@@ -141,7 +143,7 @@ module _ (By : DocumentState → List Splice → DocumentState → Type 0) (by :
       (sound_from there (option_map (clip rows) anchor) (sound_at after (clip rows cursor) None h.1 (clip_is_place rows cursor some) tt) (clipped after.text anchor some)) h
 
   -- the starts of lines are replaced
-  pub lines_shifted_by : (document : DocumentState) (outdents : Bool) (stretches : List (ℕ × ℕ)) (tab : List ℕ) (now : ℕ) → IsSound document
+  pub lines_shifted_by : (document : DocumentState) (outdents : Option CursorUnit) (stretches : List (ℕ × ℕ)) (tab : List ℕ) (now : ℕ) → IsSound document
       → Keeps document (all_splices document stretches (characters tab) now) (shifted_over document outdents stretches tab now)
   unfolding shifted_over
   lines_shifted_by document outdents [] tab now h = kept By by document document refl h

@@ -27,6 +27,8 @@ use Rattle.tui_textarea.specs.Grouping.{with_group}
 use Rattle.tui_textarea.specs.Moves.{after_move_by, anchor_with, bias_of, pushed}
 use Rattle.tui_textarea.specs.Search.{after_search}
 use Rattle.tui_textarea.specs.State.{State}
+use Rattle.tui_textarea.specs.Ranges.{ranges_accepted}
+use Rattle.tui_textarea.proofs.Settling.{sound_settled}
 use Rattle.tui_textarea.proofs.Targets.{clip_is_place}
 
 pub sound_at : (document : DocumentState) (cursor : Place) (anchor : Option Place) → IsSound document → IsPlace document.text cursor
@@ -83,9 +85,8 @@ sound_search state (Some place) h at = sound_at state.document place state.docum
 
 -- ---- ranges and settings
 
-pub sound_ranges : (rejected : List RejectedAtomicRange) (state : State) (ranges : List AtomicRange)
-    → IsSound state.document → rejected_ranges state ranges ≡ rejected → IsSound (with_ranges_if rejected state ranges).document
-sound_ranges [] state ranges h none =
+pub sound_accepted : (state : State) (ranges : List AtomicRange) → IsSound state.document → rejected_ranges state ranges ≡ [] → IsSound (ranges_accepted state ranges).document
+sound_accepted state ranges h none =
     let document = state.document in
     let sorted = in_order ranges in
     let valid : AreValid (lines document.text) sorted = valid-none_rejected (lines document.text) ranges none in
@@ -100,6 +101,10 @@ sound_ranges [] state ranges h none =
       marks = h.marks;
       whole = h.whole;
     }
+
+pub sound_ranges : (rejected : List RejectedAtomicRange) (state : State) (ranges : List AtomicRange)
+    → IsSound state.document → rejected_ranges state ranges ≡ rejected → IsSound (with_ranges_if rejected state ranges).document
+sound_ranges [] state ranges h none = sound_settled Forward (ranges_accepted state ranges) (sound_accepted state ranges h none)
 sound_ranges (range ∷ rejected) state ranges h some = h
 
 pub sound_settings : (document : DocumentState) (settings : LayoutSettings) → IsSound document → IsSound (with_layout_settings document settings)

@@ -15,11 +15,14 @@ use Rattle.tui_textarea.specs.CallResults.{CallResult, PatternRejected}
 use Rattle.tui_textarea.specs.Calls.{state_after, unguarded_after}
 use Rattle.tui_textarea.specs.Drawing.{viewport_scrolled}
 use Rattle.tui_textarea.specs.Input.{IsAfterAction, asked_by, asked_without_shortcuts}
-use Rattle.tui_textarea.specs.Moves.{IsMovedWith, pushed}
+use Rattle.textarea_data.specs.declared.range.AtomicCursorBias.TheVariants.{Forward}
+use Rattle.tui_textarea.specs.Moves.{IsMovedWith, after_move_by, bias_of, pushed}
+use Rattle.tui_textarea.specs.Selection.{unselected}
 use Rattle.tui_textarea.specs.Outcomes.{IsAfterCall, IsAfterOutOfMemory}
 use Rattle.tui_textarea.specs.State.{State}
 use Rattle.tui_textarea.proofs.Acting.{Fact, Past, by_state, left, the_call, unguarded_by}
 use Rattle.tui_textarea.proofs.Frames.{drawn_document}
+use Rattle.tui_textarea.proofs.Settling.{sound_settled}
 use Rattle.tui_textarea.proofs.SoundStates.{pushed_is_place, sound_goes, sound_settings}
 use Rattle.tui_textarea.proofs.Stepping.{Reckoning, selected_by}
 use Rattle.tui_textarea.proofs.Targets.{LeadsToPlaces, target_is_place}
@@ -38,7 +41,7 @@ any : Reckoning Any
 any = record { none = λ old new same. tt; same = λ old new other splices same h. tt; two = λ old between new first second h k. tt; one = λ document splice typed now fits whole. tt }
 
 past_any : Past Any
-past_any = record { undos = λ document h. tt; redos = λ document h. tt; stays = λ document. tt }
+past_any = record { undos = λ document h. tt; redos = λ document h. tt; stays = λ document. tt; same = λ old new other splices same h. tt }
 
 pub unguarded_stays_sound : (old : State) (made : Call) → HasSound old → CanBeMade made → HasSound (unguarded_after old made)
 unguarded_stays_sound old made h can = (unguarded_by Any Any any past_any old made h).1 can
@@ -51,8 +54,11 @@ state_stays_sound old made h can = (by_state Any Any any past_any old made h).1 
 module _ (leads : LeadsToPlaces) where
   sound_moved : (old new : State) (shift : Bool) (cursor_move : CursorMove) → HasSound old → IsMovedWith old shift cursor_move new → HasSound new
   sound_moved old new shift cursor_move h k =
-      subst HasSound (sym k.new_is) (sound_goes old shift (pushed old.document.ranges cursor_move k.found) h
-      (pushed_is_place old.document.text old.document.ranges cursor_move k.found h.ranges (target_is_place leads old cursor_move k.found h.cursor k.target_is)))
+      let found = pushed old.document.ranges cursor_move k.found in
+      subst HasSound (sym k.new_is)
+      (sound_settled (bias_of cursor_move) (after_move_by old shift found)
+      (sound_goes old shift found h
+      (pushed_is_place old.document.text old.document.ranges cursor_move k.found h.ranges (target_is_place leads old cursor_move k.found h.cursor k.target_is))))
 
   act_stays_sound : (old new : State) (asked : Action) → HasSound old → IsAfterAction old asked new → HasSound new
   act_stays_sound old new (action.MoveWithShift cursor_move shift) h k = sound_moved old new shift cursor_move h k
@@ -77,9 +83,13 @@ module _ (leads : LeadsToPlaces) where
 
 -- ---- calls that run out of memory
 
+-- the removal of the selected text
+pub selection_stays_sound : (old : State) → HasSound old → HasSound (unselected old)
+selection_stays_sound old h = (selected_by Any any old.document old.time h).1
+
 pub out_of_memory_stays_sound : (old new : State) (made : Call) → HasSound old → IsAfterOutOfMemory old made new → HasSound new
 out_of_memory_stays_sound old new made h k =
     ⊎_elim
     (λ same. subst HasSound (sym same) h)
-    (λ gone. subst HasSound (sym gone) (selected_by Any any old.document old.time h).1)
+    (λ gone. subst HasSound (sym gone) (sound_settled Forward (unselected old) (selection_stays_sound old h)))
     (left old new made k)

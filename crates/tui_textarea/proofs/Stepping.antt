@@ -1,28 +1,25 @@
 -- The state after an edit is reached by the splices in the definitions, and is sound.
 use Rattle.std.proofs.Common.{◌≡◌, ℕ, ◌==◌, ◌<◌, nat_lt, Bool, true, false, if◌then◌else◌, List, [], ◌∷◌, ◌++◌, length, replicate}
-use Rattle.std.proofs.Common.{Option, None, Some, option_map, ap, refl, subst, ◌∙◌, arith}
+use Rattle.std.proofs.Common.{IfSome, Option, None, Some, option_map, ap, refl, subst, ◌∙◌, arith}
 use Rattle.textarea_data.specs.declared.cursor.CursorMove.{CursorMove}
 use Rattle.textarea_data.specs.declared.range.AtomicCursorBias.TheVariants.{Forward as BiasForward}
 use Rattle.textarea_data.specs.declared.range.AtomicDeleteDirection.{AtomicDeleteDirection}
 use Rattle.textarea_data.specs.declared.range.AtomicDeleteDirection.TheVariants.{Backward, Forward}
 use Rattle.textarea_data.specs.declared.range.AtomicRange.{AtomicRange}
-use Rattle.textarea_lines.specs.TextLayout.{TextAndLayout}
 use Rattle.textarea_ranges.specs.Lookup.{moved_out, range_end, range_start}
 use Rattle.textarea_text.specs.Between.{clip}
 use Rattle.textarea_text.specs.Place.{Place}
 use Rattle.textarea_text.specs.Splice.{Fits, Splice}
 use Rattle.textarea_text.specs.Text.{Symbol, Break, Character, lines}
-use Rattle.textarea_document.specs.Changes.{LoggedChanges}
-use Rattle.textarea_document.specs.DocumentRows.{text_and_layout}
 use Rattle.textarea_document.specs.DocumentState.{DocumentState}
 use Rattle.textarea_document.specs.Edits.{Insert, HasEffect, Remove, RemoveBefore, RemoveAfter, RemoveBreak, EditStep, splice_of_step, stepped}
 use Rattle.textarea_document.specs.Edits.{between_removed, break_removed, removed_after, removed_before, removed_range_or, symbol_removed_after, symbol_removed_before}
 use Rattle.textarea_document.specs.Edits.{cursor_index, has_symbols, is_at_end, is_at_start, nothing_inserted, range_after, range_at_cursor, range_before, symbols_inserted}
 use Rattle.textarea_document.specs.Outcomes.{after_edit, unanchored}
-use Rattle.textarea_document.specs.Ranges.{SplitsNoRange, range_removed}
+use Rattle.textarea_document.specs.Ranges.{SplitsNoRange}
 use Rattle.textarea_document.specs.Selection.{is_selected, selected_removed, selection_end, selection_start}
 use Rattle.textarea_document.specs.Sound.{IsSound}
-use Rattle.textarea_document.specs.Splices.{after_splices, before_splices, break_splices, cursor_range_splices, insertion_splices, range_splices_or}
+use Rattle.textarea_document.specs.Splices.{after_splices, before_splices, break_splices, insertion_splices, range_splices_or}
 use Rattle.textarea_document.specs.Splices.{removal_splices, selected_splices}
 use Rattle.textarea_document.specs.Target.{word_end_after, word_start_before}
 use Rattle.textarea_document.proofs.Sounds.{sound_edited}
@@ -32,25 +29,22 @@ use Rattle.tui_textarea.specs.Edits.{tab_inserted, tab_or_spaces_inserted, typed
 use Rattle.tui_textarea.specs.Grouping.{call_begun, call_ended}
 use Rattle.tui_textarea.specs.Guards.{has_several_lines, made_single, single_line_set}
 use Rattle.tui_textarea.specs.LayoutCalls.{tab_length}
-use Rattle.tui_textarea.specs.Moves.{IsMovedWith, after_move_by, pushed}
-use Rattle.tui_textarea.specs.Ranges.{atomic_range_removed}
-use Rattle.tui_textarea.specs.Removals.{back_to_word_removed, cursor_line, cursor_range_removed_or, in_line, index_ahead, is_at_line_end, on_to_word_end_removed}
+use Rattle.tui_textarea.specs.Moves.{IsMovedWith, after_move_by, bias_of, pushed}
+use Rattle.tui_textarea.specs.Ranges.{atomic_range_removed, whole_range_removed}
+use Rattle.tui_textarea.specs.Removals.{back_to_word_removed, cursor_line, cursor_range_removed_or, in_line, index_ahead, is_at_line_end, on_to_word_end_removed, removed_from, removed_up_to, symbol_after_removed, symbol_before_removed}
 use Rattle.tui_textarea.specs.Removals.{line_end_removed, line_head_removed, symbols_ahead_removed, text_cleared, unselected_or, word_after_removed, word_before_removed, yanked}
 use Rattle.tui_textarea.specs.Selection.{selection_cancelled, selection_copied, selection_cut, unselected}
-use Rattle.tui_textarea.specs.Splices.{ahead_splices, char_splices, clear_splices, line_end_splices, line_head_splices, selected_splices_or, str_splices}
+use Rattle.tui_textarea.specs.Splices.{ahead_splices, atomic_range_splices, char_splices, clear_splices, line_end_splices, line_head_splices, selected_splices_or, splices_from, splices_up_to, str_splices}
+use Rattle.tui_textarea.specs.Splices.{symbol_after_splices, symbol_before_splices, whole_range_splices_or}
 use Rattle.tui_textarea.specs.Splices.{tab_splices, word_after_splices, word_before_splices}
 use Rattle.tui_textarea.specs.State.{State}
+use Rattle.tui_textarea.specs.Units.{earlier_start, later_end, whole_end, whole_start}
 use Rattle.tui_textarea.proofs.Cases.{apart, by_both, by_test}
+use Rattle.tui_textarea.proofs.Settling.{layout_and_ranges, settled_layout}
+use Rattle.tui_textarea.proofs.WholeRemovals.{earlier_made, later_made, removes_from_whole, removes_up_to_whole, removes_whole}
 use Rattle.tui_textarea.proofs.Grouping.{char_beside, str_beside, tab_beside}
 use Rattle.tui_textarea.proofs.Removing.{ahead_made, range_removal_made, line_end_made, line_head_made, selected_made, whole_made, word_end_made, word_start_made}
 use Rattle.tui_textarea.proofs.SoundStates.{clipped, sound_cursor, sound_from, sound_in_group, sound_unanchored}
-
--- the visible side of a document's text: its layout and ranges, and its log of changes
-abbrev pub LayoutAndRanges : Type 0
-LayoutAndRanges = TextAndLayout × List AtomicRange × LoggedChanges
-
-abbrev pub layout_and_ranges : DocumentState → LayoutAndRanges
-layout_and_ranges document = (text_and_layout document, document.ranges, document.changes)
 
 -- ---- what leaves text, layout and ranges unchanged
 
@@ -62,7 +56,8 @@ move_unchanged state shift (Some place) = refl
 pub moves_unchanged : (old new : State) (shift : Bool) (cursor_move : CursorMove) → IsMovedWith old shift cursor_move new
     → layout_and_ranges new.document ≡ layout_and_ranges old.document
 moves_unchanged old new shift cursor_move h =
-    ap (λ (s : State). layout_and_ranges s.document) h.new_is ∙ move_unchanged old shift (pushed old.document.ranges cursor_move h.found)
+    let found = pushed old.document.ranges cursor_move h.found in
+    ap (λ (s : State). layout_and_ranges s.document) h.new_is ∙ settled_layout (bias_of cursor_move) (after_move_by old shift found) ∙ move_unchanged old shift found
 
 -- ---- steps
 
@@ -162,10 +157,26 @@ module _ (By : DocumentState → List Splice → DocumentState → Type 0) (by :
       (λ some. yanked_by state _ _ h (ahead_made state.document count h some))
       (λ none. unanchored_by state.document h)
 
-  pub line_end_by : (state : State) → IsSound state.document → From state (line_end_splices state.document) (line_end_removed state)
+  from_by : (state : State) (found : Option Place) → IsSound state.document → IfSome found (λ start. HasEffect state.document (Remove start state.document.cursor))
+      → From state (splices_from found state.document) (removed_from found state)
+  from_by state None h made = before_by state.document state.settings.undo_coalescing state.time h
+  from_by state (Some start) h made = between_by state.document start state.document.cursor state.time h made
+
+  up_to_by : (state : State) (found : Option Place) → IsSound state.document → IfSome found (λ stop. HasEffect state.document (Remove state.document.cursor stop))
+      → From state (splices_up_to found state.document) (removed_up_to found state)
+  up_to_by state None h made = after_by state.document state.settings.undo_coalescing state.time h
+  up_to_by state (Some stop) h made = between_by state.document state.document.cursor stop state.time h made
+
+  pub symbol_before_by : (state : State) → IsSound state.document → From state (symbol_before_splices state) (symbol_before_removed state)
+  symbol_before_by state h = from_by state (earlier_start state) h (earlier_made state h)
+
+  pub symbol_after_by : (state : State) → IsSound state.document → From state (symbol_after_splices state) (symbol_after_removed state)
+  symbol_after_by state h = up_to_by state (later_end state) h (later_made state h)
+
+  pub line_end_by : (state : State) → IsSound state.document → From state (line_end_splices state) (line_end_removed state)
   line_end_by state h =
       by_both (From state) (is_at_line_end state.document) _ _ _ _
-      (λ at. after_by state.document state.settings.undo_coalescing state.time h)
+      (λ at. symbol_after_by state h)
       (λ inside. yanked_by state _ _ h (line_end_made state.document h inside))
 
   pub line_head_by : (state : State) → IsSound state.document → From state (line_head_splices state.document) (line_head_removed state)
@@ -176,36 +187,37 @@ module _ (By : DocumentState → List Splice → DocumentState → Type 0) (by :
 
   back_to_word_by : (state : State) → IsSound state.document
       → From state (if state.document.cursor.1 == 0 then break_splices state.document
-      else removal_splices state.document (in_line state.document (word_start_before (cursor_line state.document) state.document.cursor.1)) state.document.cursor)
+      else removal_splices state.document (whole_start state (in_line state.document (word_start_before (cursor_line state.document) state.document.cursor.1))) state.document.cursor)
       (back_to_word_removed state)
   unfolding back_to_word_removed
   back_to_word_by state h =
       by_both (From state) (state.document.cursor.1 == 0) _ _ _ _
       (λ at. break_by state.document state.time h)
-      (λ inside. yanked_by state _ _ h (word_start_made state.document h inside))
+      (λ inside. yanked_by state _ _ h (removes_from_whole state _ _ h (word_start_made state.document h inside)))
 
   on_to_word_end_by : (state : State) → IsSound state.document
-      → From state (if is_at_line_end state.document then after_splices state.document
-      else removal_splices state.document state.document.cursor (in_line state.document (word_end_after (cursor_line state.document) state.document.cursor.1)))
+      → From state (if is_at_line_end state.document then symbol_after_splices state
+      else removal_splices state.document state.document.cursor (whole_end state (in_line state.document (word_end_after (cursor_line state.document) state.document.cursor.1))))
       (on_to_word_end_removed state)
   unfolding on_to_word_end_removed
   on_to_word_end_by state h =
       by_both (From state) (is_at_line_end state.document) _ _ _ _
-      (λ at. after_by state.document state.settings.undo_coalescing state.time h)
-      (λ inside. yanked_by state _ _ h (word_end_made state.document h inside))
+      (λ at. symbol_after_by state h)
+      (λ inside. yanked_by state _ _ h (removes_up_to_whole state _ _ h (word_end_made state.document h inside)))
 
   range_removed_by : (state other : State) (splices : List Splice) (direction : AtomicDeleteDirection) (found : Option AtomicRange)
       → IsSound state.document → range_at_cursor state.document direction ≡ found → From state splices other
-      → From state (range_splices_or found state.document splices) (cursor_range_removed_or found state other)
+      → From state (whole_range_splices_or found state splices) (cursor_range_removed_or found state other)
   range_removed_by state other splices direction None h is k = k
   range_removed_by state other splices direction (Some range) h is k =
-      between_by state.document (range_start range) (range_end range) state.time h (range_removal_made state.document direction range h is)
+      between_by state.document (whole_start state (range_start range)) (whole_end state (range_end range)) state.time h
+      (removes_whole state _ _ h (range_removal_made state.document direction range h is))
 
-  pub word_before_by : (state : State) → IsSound state.document → From state (word_before_splices state.document) (word_before_removed state)
+  pub word_before_by : (state : State) → IsSound state.document → From state (word_before_splices state) (word_before_removed state)
   word_before_by state h =
       range_removed_by state (back_to_word_removed state) _ Backward (range_before state.document) h refl (back_to_word_by state h)
 
-  pub word_after_by : (state : State) → IsSound state.document → From state (word_after_splices state.document) (word_after_removed state)
+  pub word_after_by : (state : State) → IsSound state.document → From state (word_after_splices state) (word_after_removed state)
   word_after_by state h =
       range_removed_by state (on_to_word_end_removed state) _ Forward (range_after state.document) h refl (on_to_word_end_by state h)
 
@@ -215,19 +227,22 @@ module _ (By : DocumentState → List Splice → DocumentState → Type 0) (by :
       (λ filled. yanked_by state _ _ h (whole_made state.document (some_symbols state.document.text filled)))
       (λ empty. kept state.document state.document refl h)
 
-  range_by : (document : DocumentState) (direction : AtomicDeleteDirection) (found : Option AtomicRange) (now : ℕ) → IsSound document
-      → range_at_cursor document direction ≡ found → Sound document (range_splices_or found document []) (range_removed found document now)
-  range_by document direction None now h is = kept document document refl h
-  range_by document direction (Some range) now h is =
-      let left = between_removed document (range_start range) (range_end range) now in
-      let gone = between_by document (range_start range) (range_end range) now h (range_removal_made document direction range h is) in
-      moved document left (range_removed (Some range) document now) (removal_splices document (range_start range) (range_end range)) refl
+  range_by : (state : State) (direction : AtomicDeleteDirection) (found : Option AtomicRange) → IsSound state.document
+      → range_at_cursor state.document direction ≡ found → Sound state.document (whole_range_splices_or found state []) (whole_range_removed found state)
+  range_by state direction None h is = kept state.document state.document refl h
+  range_by state direction (Some range) h is =
+      let document = state.document in
+      let start = whole_start state (range_start range) in
+      let stop = whole_end state (range_end range) in
+      let left = between_removed document start stop state.time in
+      let gone = between_by document start stop state.time h (removes_whole state _ _ h (range_removal_made document direction range h is)) in
+      moved document left (whole_range_removed (Some range) state) (removal_splices document start stop) refl
       (sound_from left (option_map (clip (lines left.text)) document.anchor) gone.1 (clipped left.text document.anchor (omega (arith, gone.1.cursor.0)))) gone
 
   pub cursor_range_by : (state : State) (direction : AtomicDeleteDirection) → IsSound state.document
-      → From state (cursor_range_splices state.document direction) (atomic_range_removed state direction)
+      → From state (atomic_range_splices state direction) (atomic_range_removed state direction)
   cursor_range_by state direction h =
-      range_by state.document direction (range_at_cursor state.document direction) state.time h refl
+      range_by state direction (range_at_cursor state.document direction) h refl
 
   -- ---- over a selection
 

@@ -1,6 +1,6 @@
 -- A text of one line with the cursor after it, over the calls that type a character, remove the last
 -- one, and clear the text.
-use Rattle.std.proofs.Common.{◌≡◌, ◌∙◌, ℕ, zero, suc, ◌+◌, ◌-◌, ◌≤◌, ◌&&◌, ◌||◌, Bool, true, false, not, cond, List, [], ◌∷◌, ◌++◌, length, take, drop, Option, None, inl, inr, refl, subst, sym, ap, arith, take_all, ⊎_elim}
+use Rattle.std.proofs.Common.{◌≡◌, ◌∙◌, ℕ, zero, suc, ◌+◌, ◌-◌, ◌≤◌, ◌&&◌, ◌||◌, Bool, true, false, not, cond, List, [], ◌∷◌, ◌++◌, length, take, drop, Option, None, Some, inl, inr, refl, subst, sym, ap, arith, take_all, ⊎_elim}
 use Rattle.std.proofs.Math.Bool.{or-false}
 use Rattle.std.proofs.lemmas.Bool.{cond-false}
 use Rattle.std.proofs.lemmas.Bool.Decides.{nat_tests}
@@ -19,7 +19,12 @@ use Rattle.tui_textarea.specs.Edits.{breaks_line, char_inserted, char_or_break_i
 use Rattle.tui_textarea.specs.Fitting.{fits_for, has_no_room, is_allowed}
 use Rattle.tui_textarea.specs.Grouping.{call_begun, call_ended}
 use Rattle.tui_textarea.specs.Guards.{bars_character, unless_read_only}
-use Rattle.tui_textarea.specs.Removals.{symbol_before_removed, text_cleared, unselected_or, yanked}
+use Rattle.tui_textarea.specs.Removals.{removed_from, symbol_before_removed, text_cleared, unselected_or, yanked}
+use Rattle.textarea_data.specs.declared.cursor.CursorUnit.{CursorUnit}
+use Rattle.textarea_data.specs.declared.cursor.CursorUnit.TheVariants as unit
+use Rattle.textarea_data.specs.declared.range.AtomicCursorBias.TheVariants.{Forward}
+use Rattle.tui_textarea.specs.Units.{earlier_start, earlier_start_by, settled}
+use Rattle.tui_textarea.proofs.Settling.{settled_by_characters}
 use Rattle.tui_textarea.specs.Selection.{IsInsertOutOfMemory, unselected}
 use Rattle.tui_textarea.specs.State.{State, with_document}
 use Rattle.tui_textarea.specs.TypedLine.{IsTypedLine, with_character}
@@ -176,7 +181,7 @@ before_holds state c cs =
       ranges = refl;
     }
 
-removed_holds : (state : State) (typed : List ℕ) → HasLine (symbol_before_removed (ending_state state typed)) (take (length typed - 1) typed)
+removed_holds : (state : State) (typed : List ℕ) → HasLine (removed_from None (ending_state state typed)) (take (length typed - 1) typed)
 unfolding removed_before
 removed_holds state [] = record { text = refl; cursor = refl; anchor = refl; ranges = refl }
 removed_holds state (c ∷ cs) =
@@ -185,20 +190,21 @@ removed_holds state (c ∷ cs) =
     (sym (cond-false (is_at_start document) (unanchored document) (stepped document RemoveBefore state.settings.undo_coalescing state.time) (grind (arith, nat_tests))))
     (before_holds state c cs)
 
-line_shortened : (state new : State) (typed : List ℕ) → HasLine state typed → new ≡ unselected_or state (symbol_before_removed state) → HasLine new (take (length typed - 1) typed)
-line_shortened state new typed h is =
+line_shortened : (state new : State) (typed : List ℕ) → HasLine state typed → state.settings.cursor_unit ≡ unit.Character → new ≡ unselected_or state (symbol_before_removed state) → HasLine new (take (length typed - 1) typed)
+line_shortened state new typed h by_characters is =
     let at_end = ending_state state typed in
     let one = ap (λ (s : State). unselected_or s (symbol_before_removed s)) (is_ending_state state typed h) in
     let two : unselected_or at_end (symbol_before_removed at_end) ≡ symbol_before_removed at_end =
     cond-false (is_selected at_end.document) (unselected at_end) (symbol_before_removed at_end) (none_selected state.document typed) in
-    subst (λ (s : State). HasLine s (take (length typed - 1) typed)) (sym (is ∙ one ∙ two)) (removed_holds state typed)
+    let three : symbol_before_removed at_end ≡ removed_from None at_end = ap (λ (found : CursorUnit). removed_from (earlier_start_by found at_end.document) at_end) by_characters in
+    subst (λ (s : State). HasLine s (take (length typed - 1) typed)) (sym (is ∙ one ∙ two ∙ three)) (removed_holds state typed)
 
 -- ---- out of memory
 
-line_left : (state new : State) (typed : List ℕ) → HasLine state typed → IsInsertOutOfMemory state new → HasLine new typed
-line_left state new typed h (inl same) = subst (λ (s : State). HasLine s typed) (sym same) h
-line_left state new typed h (inr gone) =
-    subst (λ (s : State). HasLine s typed) (sym (gone ∙ ap unselected (is_ending_state state typed h) ∙ stays_unselected state typed))
+line_left : (state new : State) (typed : List ℕ) → HasLine state typed → state.settings.cursor_unit ≡ unit.Character → IsInsertOutOfMemory state new → HasLine new typed
+line_left state new typed h by_characters (inl same) = subst (λ (s : State). HasLine s typed) (sym same) h
+line_left state new typed h by_characters (inr gone) =
+    subst (λ (s : State). HasLine s typed) (sym (gone ∙ settled_by_characters Forward (unselected state) by_characters ∙ ap unselected (is_ending_state state typed h) ∙ stays_unselected state typed))
     (record { text = refl; cursor = refl; anchor = refl; ranges = refl })
 
 -- ---- in a text area that can be edited
@@ -217,13 +223,18 @@ made_holds old new made maximum typed more h is same line =
       anchor = line.anchor;
       ranges = line.ranges;
       editable = ap (λ (s : Settings). s.read_only) settings ∙ h.editable;
+      by_characters = ap (λ (s : Settings). s.cursor_unit) settings ∙ h.by_characters;
       most = ap (λ (s : Settings). s.max_chars) settings ∙ h.most;
     }
 
-holds : (old new made : State) (maximum : Option ℕ) (typed more : List ℕ) → IsTypedLine old maximum typed → new ≡ unless_read_only old made → made.settings ≡ old.settings
+-- the state that a call leaves is the one that it makes, since the cursor goes by characters
+plain : (old made : State) (maximum : Option ℕ) (typed : List ℕ) → IsTypedLine old maximum typed → made.settings ≡ old.settings → settled Forward made ≡ made
+plain old made maximum typed h same = settled_by_characters Forward made (ap (λ (s : Settings). s.cursor_unit) same ∙ h.by_characters)
+
+holds : (old new made : State) (maximum : Option ℕ) (typed more : List ℕ) → IsTypedLine old maximum typed → new ≡ unless_read_only old (settled Forward made) → made.settings ≡ old.settings
     → (new ≡ made → HasLine new more) → IsTypedLine new maximum more
 holds old new made maximum typed more h is same k =
-    let made_is : new ≡ made = is ∙ cond-false old.settings.read_only old made h.editable in
+    let made_is : new ≡ made = is ∙ cond-false old.settings.read_only old (settled Forward made) h.editable ∙ plain old made maximum typed h same in
     made_holds old new made maximum typed more h made_is same (k made_is)
 
 -- whatever a test chooses has the settings
@@ -246,34 +257,44 @@ barred_is state maximum typed c h breaks =
     ∙ ap (λ (b : Bool). has_no_room state || b) h.editable ∙ or-false (has_no_room state) ∙ room
 
 pub character_typed : (state new : State) (maximum : Option ℕ) (typed : List ℕ) (c : ℕ) → IsTypedLine state maximum typed → breaks_line c ≡ false
-    → new ≡ cond (bars_character state c) state (char_inserted state c) → IsTypedLine new maximum (with_character maximum typed c)
+    → new ≡ cond (bars_character state c) state (settled Forward (char_inserted state c)) → IsTypedLine new maximum (with_character maximum typed c)
 character_typed state new maximum typed c h breaks is =
-    by (is_allowed maximum (length typed + 1)) (is ∙ ap (λ (b : Bool). cond b state (char_inserted state c)) (barred_is state maximum typed c h breaks))
+    by (is_allowed maximum (length typed + 1))
+    (is ∙ ap (λ (s : State). cond (bars_character state c) state s) (plain state (char_inserted state c) maximum typed h same)
+    ∙ ap (λ (b : Bool). cond b state (char_inserted state c)) (barred_is state maximum typed c h breaks))
   where
     left : State
     left = unselected (call_begun state)
 
+    same : (char_inserted state c).settings ≡ state.settings
+    same = either state (breaks_line c) (line_broken left) (typed_character_inserted left c) refl refl
+
     by : (fits : Bool) → new ≡ cond (not fits) state (char_inserted state c) → IsTypedLine new maximum (cond fits (typed ++ c ∷ []) typed)
     by true made =
-        made_holds state new (char_inserted state c) maximum typed (typed ++ c ∷ []) h made (either state (breaks_line c) (line_broken left) (typed_character_inserted left c) refl refl)
+        made_holds state new (char_inserted state c) maximum typed (typed ++ c ∷ []) h made same
         (line_typed state new typed c (line_of state maximum typed h) breaks made)
     by false made = subst (λ (s : State). IsTypedLine s maximum typed) (sym made) h
 
-pub text_sent : (state new : State) (maximum : Option ℕ) (typed : List ℕ) → IsTypedLine state maximum typed → new ≡ unless_read_only state (text_cleared state) → IsTypedLine new maximum []
+pub text_sent : (state new : State) (maximum : Option ℕ) (typed : List ℕ) → IsTypedLine state maximum typed → new ≡ unless_read_only state (settled Forward (text_cleared state)) → IsTypedLine new maximum []
 unfolding yanked
 text_sent state new maximum typed h is =
     let text = state.document.text in
     holds state new (text_cleared state) maximum typed [] h is (either state (has_symbols text) (yanked state (0, 0) (place_of text (length text))) state refl refl)
     (λ made. line_cleared state new typed (line_of state maximum typed h) made)
 
+removed_settings : (found : Option Place) (state : State) → (removed_from found state).settings ≡ state.settings
+removed_settings None state = refl
+removed_settings (Some start) state = refl
+
 pub character_removed : (state new : State) (maximum : Option ℕ) (typed : List ℕ) → IsTypedLine state maximum typed
-    → new ≡ unless_read_only state (unselected_or state (symbol_before_removed state)) → IsTypedLine new maximum (take (length typed - 1) typed)
+    → new ≡ unless_read_only state (settled Forward (unselected_or state (symbol_before_removed state))) → IsTypedLine new maximum (take (length typed - 1) typed)
 character_removed state new maximum typed h is =
     holds state new (unselected_or state (symbol_before_removed state)) maximum typed (take (length typed - 1) typed) h is
-    (either state (is_selected state.document) (unselected state) (symbol_before_removed state) refl refl)
-    (λ made. line_shortened state new typed (line_of state maximum typed h) made)
+    (either state (is_selected state.document) (unselected state) (symbol_before_removed state) refl (removed_settings (earlier_start state) state))
+    (λ made. line_shortened state new typed (line_of state maximum typed h) h.by_characters made)
 
 pub typing_failed : (state new : State) (maximum : Option ℕ) (typed : List ℕ) → IsTypedLine state maximum typed → IsInsertOutOfMemory state new → IsTypedLine new maximum typed
 typing_failed state new maximum typed h left =
-    let line = line_left state new typed (line_of state maximum typed h) left in
-    ⊎_elim (λ same. made_holds state new state maximum typed typed h same refl line) (λ gone. made_holds state new (unselected state) maximum typed typed h gone refl line) left
+    let line = line_left state new typed (line_of state maximum typed h) h.by_characters left in
+    ⊎_elim (λ same. made_holds state new state maximum typed typed h same refl line)
+    (λ gone. made_holds state new (unselected state) maximum typed typed h (gone ∙ plain state (unselected state) maximum typed h refl) refl line) left

@@ -27,6 +27,8 @@ use Rattle.textarea_document.proofs.StepLaw.{step_keeps}
 use Rattle.textarea_text.specs.Fragment.{fragment_symbols, pasted_symbols}
 use Rattle.textarea_calls.specs.declared.call.Call.{Call}
 use Rattle.textarea_calls.specs.declared.call.Call.TheVariants as call
+use Rattle.tui_textarea.specs.CallUnits.{settled_after}
+use Rattle.tui_textarea.proofs.SettledUndos.{undo_after_call}
 use Rattle.tui_textarea.specs.Calls.{call_splices, state_after, unguarded_after, unguarded_splices}
 use Rattle.tui_textarea.specs.Guards.{admitted_over_selection, barred_after, is_barred}
 use Rattle.tui_textarea.specs.Edits.{breaks_line, char_or_break_inserted, fitting_spaces, line_broken, symbols_or_none_inserted, tab_or_spaces_inserted, typed_character_inserted}
@@ -320,7 +322,8 @@ module _ (state : State) (starts : StartsGroup state) where
   by_call : (made : Call) → IsInsertion made → 0 < length (call_splices state made) → Back state (state_after state made).document
   by_call made is =
       by_both (λ (splices : List Splice) (new : State). 0 < length splices → Back state new.document) (is_barred state made) [] (unguarded_splices state made) (barred_after state made)
-      (unguarded_after state made) (λ barred some. absurd (omega (arith, some))) (λ free. unguarded_call made is)
+      (settled_after made (unguarded_after state made)) (λ barred some. absurd (omega (arith, some)))
+      (λ free some. undo_after_call made (unguarded_after state made) ∙ unguarded_call made is some)
 
 pub undone_at_once : (state : State) (made : Call) → IsSound state.document → IsInsertion made → IsUndoneAtOnce state made
 undone_at_once state made sound is grouping closed several no_run some =

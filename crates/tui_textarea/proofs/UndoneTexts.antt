@@ -3,19 +3,24 @@ use Rattle.std.proofs.Common.{◌≡◌, ◌≢◌, ◌↔◌, ◌∙◌, ◌&&�
 use Rattle.std.specs.List.{slice_get}
 use Rattle.textarea_history.specs.Groups.{group_count}
 use Rattle.textarea_history.specs.HistoryLaw.{times}
-use Rattle.textarea_history.specs.Log.{Log, done_groups, newest}
+use Rattle.textarea_history.specs.Log.{Log, Logged, done_groups, newest}
 use Rattle.textarea_history.proofs.Groups.{some_group}
 use Rattle.textarea_history.proofs.LogLaws.{newest_some, times-front}
 use Rattle.textarea_text.specs.Fragment.{fragment_text}
 use Rattle.textarea_text.specs.Splice.{Splice}
 use Rattle.textarea_document.specs.DocumentLaw.{RestoresDocument}
-use Rattle.textarea_document.specs.DocumentState.{DocumentState}
+use Rattle.textarea_data.specs.declared.range.AtomicCursorBias.TheVariants.{Forward}
+use Rattle.textarea_document.specs.DocumentState.{DocumentState, logged}
+use Rattle.textarea_document.proofs.UndoLaw.{undos_alike}
 use Rattle.textarea_document.specs.Outcomes.{after_undo}
 use Rattle.std.proofs.lemmas.Bool.{and_parts, cond-false, not-true}
 use Rattle.tui_textarea.specs.Guards.{is_editable}
 use Rattle.tui_textarea.specs.State.{State, with_document}
 use Rattle.tui_textarea.specs.TextsBefore.{ReachesBack, StepsBack, state_undone, undoes}
+use Rattle.tui_textarea.specs.Units.{settled}
+use Rattle.tui_textarea.specs.declared.textarea.settings.Settings.{Settings}
 use Rattle.tui_textarea.proofs.Cases.{by_test}
+use Rattle.tui_textarea.proofs.Settling.{settled_as, settled_settings}
 
 -- ---- the number of done groups
 
@@ -62,14 +67,19 @@ at_last : (document : DocumentState) (written : List ℕ) (count : ℕ) → is_s
 at_last document written zero none within is = is
 at_last document written (suc count) none within is = absurd (omega (arith, within, no_groups document.log none))
 
+-- the same texts are reached wherever the cursor is
+reached_alike : (one other : DocumentState) (written : List ℕ) → logged one ≡ logged other → ReachesBack one written → ReachesBack other written
+reached_alike one other written same h =
+    (h.0, subst (λ (log : Log). h.0 ≤ done_groups log) (ap (λ (l : Logged). l.log) same) h.1, ap fragment_text (sym (undos_alike h.0 one other same)) ∙ h.2)
+
 -- ---- an undo in a text area that may be read only
 
 undoes_parts : (state : State) → undoes state ≡ true → (state.settings.read_only ≡ false) × (is_some (newest state.document.log) ≡ true)
 undoes_parts state found =
     let parts = and_parts (is_editable state) (is_some (newest state.document.log)) found in (not-true state.settings.read_only parts.0, parts.1)
 
-undone_is : (state new : State) → undoes state ≡ true → new ≡ state_undone state → new ≡ with_document state (after_undo state.document)
-undone_is state new found is = is ∙ cond-false state.settings.read_only state (with_document state (after_undo state.document)) (undoes_parts state found).0
+undone_is : (state new : State) → undoes state ≡ true → new ≡ state_undone state → new ≡ settled Forward (with_document state (after_undo state.document))
+undone_is state new found is = is ∙ cond-false state.settings.read_only state (settled Forward (with_document state (after_undo state.document))) (undoes_parts state found).0
 
 nothing_found : (state : State) → is_editable state ≡ true → undoes state ≡ false → is_some (newest state.document.log) ≡ false
 nothing_found state editable none = sym (ap (λ (b : Bool). b && is_some (newest state.document.log)) editable) ∙ none
@@ -77,7 +87,8 @@ nothing_found state editable none = sym (ap (λ (b : Bool). b && is_some (newest
 stays_editable : (state new : State) → new ≡ state_undone state → is_editable new ≡ is_editable state
 stays_editable state new is =
     ap is_editable is
-    ∙ by_test (λ (s : State). is_editable s ≡ is_editable state) state.settings.read_only state (with_document state (after_undo state.document)) (λ barred. refl) (λ editable. refl)
+    ∙ by_test (λ (s : State). is_editable s ≡ is_editable state) state.settings.read_only state (settled Forward (with_document state (after_undo state.document))) (λ barred. refl)
+    (λ editable. ap (λ (s : Settings). not s.read_only) (settled_settings Forward (with_document state (after_undo state.document))))
 
 pub steps_back : (state : State) → Restores state.document → StepsBack state
 steps_back state restores =
@@ -86,11 +97,17 @@ steps_back state restores =
       here = λ written is. (0, omega arith, is);
       before = λ written new found is other.
           let some = (undoes_parts state found).1 in
-          subst (λ (s : State). ReachesBack document written ↔ ReachesBack s.document written) (sym (undone_is state new found is))
-          ((λ h. after_one document written h.0 restores some other h.1 h.2), (λ h. further document written restores some h));
+          let undone = with_document state (after_undo document) in
+          subst (λ (s : State). ReachesBack document written ↔ ReachesBack s.document written) (sym (undone_is state new found is ∙ settled_as Forward undone)) (
+            (λ h. reached_alike (after_undo document) (record (after_undo document) { cursor = (settled Forward undone).document.cursor; anchor = (settled Forward undone).document.anchor }) written refl
+                (after_one document written h.0 restores some other h.1 h.2)),
+            (λ h. further document written restores some
+                (reached_alike (record (after_undo document) { cursor = (settled Forward undone).document.cursor; anchor = (settled Forward undone).document.anchor }) (after_undo document) written refl h)),
+          );
       fewer = λ new found is.
           let some = (undoes_parts state found).1 in
-          subst (λ (s : State). done_groups s.document.log < done_groups document.log) (sym (undone_is state new found is)) (omega (arith, one_less document restores some, some_groups document.log some));
+          subst (λ (s : State). done_groups s.document.log < done_groups document.log) (sym (undone_is state new found is ∙ settled_as Forward (with_document state (after_undo document))))
+              (omega (arith, one_less document restores some, some_groups document.log some));
       last = λ written editable none other h. other (at_last document written h.0 (nothing_found state editable none) h.1 h.2);
       editable = stays_editable state;
     }

@@ -22,11 +22,14 @@ use Rattle.tui_textarea.specs.Calls.{rejected_ranges, with_ranges_if}
 use Rattle.tui_textarea.specs.Drawing.{viewport_scrolled}
 use Rattle.tui_textarea.specs.Guards.{has_several_lines, made_single, single_line_set}
 use Rattle.tui_textarea.specs.Input.{IsAfterAction, asked_by, asked_without_shortcuts}
-use Rattle.tui_textarea.specs.Moves.{IsMovedWith, after_move_by, pushed}
+use Rattle.textarea_data.specs.declared.range.AtomicCursorBias.TheVariants.{Backward, Forward}
+use Rattle.tui_textarea.specs.Moves.{IsMovedWith, after_move_by, bias_of, gone_to, pushed}
+use Rattle.tui_textarea.specs.Ranges.{cursor_normalized, ranges_accepted}
 use Rattle.tui_textarea.specs.Outcomes.{IsAfterCall, after_pattern}
 use Rattle.tui_textarea.specs.Search.{after_search, next_match, previous_match}
-use Rattle.tui_textarea.specs.Selection.{selection_cancelled, selection_copied}
+use Rattle.tui_textarea.specs.Selection.{all_selected, selection_cancelled, selection_copied}
 use Rattle.tui_textarea.specs.State.{State}
+use Rattle.tui_textarea.proofs.Settling.{settled_text}
 
 -- the two states have the same text
 abbrev pub SameText : State → State → Type 0
@@ -41,7 +44,8 @@ moved old shift (Some place) = refl
 
 moved_with : (old : State) (shift : Bool) (cursor_move : CursorMove) (new : State) → IsMovedWith old shift cursor_move new → SameText old new
 moved_with old shift cursor_move new h =
-    ap text h.new_is ∙ moved old shift (pushed old.document.ranges cursor_move h.found)
+    let found = pushed old.document.ranges cursor_move h.found in
+    ap text h.new_is ∙ settled_text (bias_of cursor_move) (after_move_by old shift found) ∙ moved old shift found
 
 searched : (old : State) (found : Option Place) → SameText old (after_search old found)
 searched old None = refl
@@ -67,7 +71,7 @@ pattern_set old pattern PatternRejected = refl
 pattern_set old pattern other = refl
 
 ranges_set : (rejected : List RejectedAtomicRange) (old : State) (ranges : List AtomicRange) → SameText old (with_ranges_if rejected old ranges)
-ranges_set [] old ranges = refl
+ranges_set [] old ranges = settled_text Forward (ranges_accepted old ranges)
 ranges_set (range ∷ rejected) old ranges = refl
 
 -- there is no splice, and the text stays
@@ -98,9 +102,16 @@ unedited state (call.Scroll scrolling) is = record { no_splice = refl; text_stay
 unedited state call.Copy is = record { no_splice = refl; text_stays = λ returned new after. ap text after ∙ copied state }
 unedited state (call.SetSearchPattern pattern) is = record { no_splice = refl; text_stays = λ returned new after. ap text after ∙ pattern_set state pattern.now returned }
 unedited state (call.SetSearchText plain ignore_case whole_word) is = record { no_splice = refl; text_stays = λ returned new after. ap text after ∙ pattern_set state (text_pattern plain.now ignore_case whole_word) returned }
-unedited state (call.SearchForward at_cursor) is = record { no_splice = refl; text_stays = λ returned new after. ap text after ∙ searched state (next_match state at_cursor) }
-unedited state (call.SearchBack at_cursor) is = record { no_splice = refl; text_stays = λ returned new after. ap text after ∙ searched state (previous_match state at_cursor) }
+unedited state (call.SearchForward at_cursor) is = record { no_splice = refl; text_stays = λ returned new after. ap text after
+    ∙ settled_text Forward (after_search state (next_match state at_cursor)) ∙ searched state (next_match state at_cursor) }
+unedited state (call.SearchBack at_cursor) is = record { no_splice = refl; text_stays = λ returned new after. ap text after
+    ∙ settled_text Backward (after_search state (previous_match state at_cursor)) ∙ searched state (previous_match state at_cursor) }
 unedited state (call.TrySetAtomicRanges ranges) is = record { no_splice = refl; text_stays = λ returned new after. ap text after ∙ ranges_set (rejected_ranges state ranges.now) state ranges.now }
 unedited state (call.SetSingleLine single_line) is = record { no_splice = refl; text_stays = λ returned new after. ap text after ∙ single_set state single_line }
 unedited state (call.Render area) is = record { no_splice = refl; text_stays = λ returned new after. ap (λ (d : DocumentState). d.text) (drawn_document state new area after) }
+unedited state (call.GoTo place) is = record { no_splice = refl; text_stays = λ returned new after. ap text after ∙ settled_text Forward (gone_to state place) }
+unedited state call.SelectAll is = record { no_splice = refl; text_stays = λ returned new after. ap text after ∙ settled_text Forward (all_selected state) }
+unedited state (call.NormalizeCursorAroundAtomicRanges bias) is = record { no_splice = refl; text_stays = λ returned new after. ap text after ∙ settled_text bias (cursor_normalized state bias) }
+unedited state (call.SetCursorUnit unit) is =
+    record { no_splice = refl; text_stays = λ returned new after. ap text after ∙ settled_text Forward (record state { settings = record state.settings { cursor_unit = unit } }) }
 unedited state other is = record { no_splice = cc is; text_stays = λ returned new after. ap text after ∙ cc is }

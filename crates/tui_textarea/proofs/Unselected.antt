@@ -1,21 +1,31 @@
 -- The state after a call that first removes the selected text.
-use Rattle.std.proofs.Common.{◌≡◌, ◌||◌, Bool, true, false, Option, None, is_some, Result, Ok, Err, ap, sym, ◌∙◌}
-use Rattle.std.proofs.lemmas.Bool.{cond-false, cond-true, or_left, or_parts, or_right}
+use Rattle.std.proofs.Common.{◌≡◌, ◌||◌, Bool, true, false, Option, None, Some, is_some, Result, Ok, Err, ap, inr, refl, sym, ◌∙◌}
+use Rattle.std.proofs.lemmas.Bool.{cond-false, cond-true, or_left, or_parts, or_right, true≢false}
 use Rattle.std.proofs.lemmas.Result.{IfOk-weaker}
-use Rattle.std.specs.Result.{IfOk, OnOk}
+use Rattle.std.specs.Result.{IfOk, OnErr, OnOk}
+use Rattle.textarea_data.specs.declared.range.AtomicCursorBias.TheVariants.{Forward}
 use Rattle.textarea_data.specs.declared.range.AtomicRange.{AtomicRange}
 use Rattle.textarea_data.specs.declared.range.AtomicDeleteDirection.{AtomicDeleteDirection}
-use Rattle.textarea_document.specs.Edits.{range_at_cursor, cursor_range_removed, removed_range_or}
+use Rattle.textarea_document.specs.Edits.{range_at_cursor}
 use Rattle.textarea_document.specs.Selection.{is_selected, selected_removed}
 use Rattle.textarea_document.specs.DocumentState.{DocumentState}
-use Rattle.tui_textarea.specs.Removals.{removes_or, unselected_or}
-use Rattle.tui_textarea.specs.Selection.{unselected}
+use Rattle.tui_textarea.specs.Removals.{cursor_range_removed_or, removes_or, unselected_or}
+use Rattle.tui_textarea.specs.Selection.{IsInsertOutOfMemory, unselected}
+use Rattle.tui_textarea.specs.Units.{settled}
 use Rattle.tui_textarea.specs.State.{State, with_document}
 use Rattle.textarea_util.proofs.Options.{none_of_test}
 
 pub unselected_is : {view state : State} → view ≡ state → (removed : DocumentState) → removed ≡ selected_removed view.document view.time
     → with_document view removed ≡ unselected state
 unselected_is {view} is removed gone = ap (with_document view) gone ∙ ap unselected is
+
+-- after the settling, if the insertion into the remaining text ran out of memory
+pub left_settled : {T E : Type 0} (r : Result T E) {view state last : State} → view ≡ state → (removed new : DocumentState)
+    → removed ≡ selected_removed view.document view.time → OnErr r (new ≡ removed) → last ≡ settled Forward (with_document view new)
+    → OnErr r (IsInsertOutOfMemory state last)
+left_settled (Ok x) is removed new gone h last_is = h
+left_settled (Err e) {view} is removed new gone h last_is =
+    inr (last_is ∙ ap (λ (d : DocumentState). settled Forward (with_document view d)) h ∙ ap (settled Forward) (unselected_is is removed gone))
 
 -- if text is selected, only that is removed
 pub selected_gone : {view state : State} → view ≡ state → (removed : DocumentState) → removed ≡ selected_removed view.document view.time
@@ -29,6 +39,14 @@ pub none_gone : {view state : State} → view ≡ state → (removed : DocumentS
     → is_selected view.document ≡ false → with_document view removed ≡ state
 none_gone {view} is removed gone none = ap (with_document view) (gone ∙ cond-false (is_selected view.document) _ view.document none) ∙ is
 
+-- the state after a removal where none is selected
+pub else_unselected : (made : State → State) {view state : State} → view ≡ state → (removed : DocumentState) (new : State)
+    → removed ≡ selected_removed view.document view.time → is_selected view.document ≡ false
+    → new ≡ made (with_document view removed) → new ≡ unselected_or state (made state)
+else_unselected made {view} {state} is removed new gone none h =
+    h ∙ ap made (none_gone is removed gone none)
+    ∙ sym (cond-false (is_selected state.document) (unselected state) (made state) (ap (λ (s : State). is_selected s.document) (sym is) ∙ none))
+
 -- the document after the call, if it succeeds
 pub made_unselected : {T E : Type 0} (r : Result T E) (made : State → DocumentState) {view state : State} → view ≡ state → (removed new : DocumentState)
     → removed ≡ selected_removed view.document view.time → is_selected view.document ≡ false
@@ -38,6 +56,13 @@ made_unselected (Ok x) made {view} {state} is removed new gone none h =
     ∙ ap (λ (s : State). with_document s (made state)) is
     ∙ sym (cond-false (is_selected state.document) (unselected state) (with_document state (made state)) (ap (λ (s : State). is_selected s.document) (sym is) ∙ none))
 made_unselected (Err e) made is removed new gone none h = h
+
+-- the same for the state after a call of the text area
+pub then_unselected : {T E : Type 0} (r : Result T E) (made : State → State) {view state : State} → view ≡ state → (removed : DocumentState) (new : State)
+    → removed ≡ selected_removed view.document view.time → is_selected view.document ≡ false
+    → OnOk r (new ≡ made (with_document view removed)) → OnOk r (new ≡ unselected_or state (made state))
+then_unselected (Ok x) made is removed new gone none h = else_unselected made is removed new gone none h
+then_unselected (Err e) made is removed new gone none h = h
 
 -- the call's result
 pub answered_unselected : {E : Type 0} (r : Result Bool E) (has : State → Bool) {view state : State} → view ≡ state → (removed : DocumentState)
@@ -49,18 +74,28 @@ answered_unselected (Err e) has is removed gone none h = h
 
 -- its result if there is no range at the cursor either
 pub answered_unhit : {E : Type 0} (r : Result Bool E) (has : State → Bool) (direction : AtomicDeleteDirection) {view state : State} → view ≡ state
-    → (removed after : DocumentState) (found : Option AtomicRange) → removed ≡ selected_removed view.document view.time → is_selected view.document ≡ false
-    → found ≡ range_at_cursor removed direction → is_some found ≡ false → after ≡ cursor_range_removed removed direction view.time
-    → IfOk r (λ b. b ≡ has (with_document view after))
+    → (removed : DocumentState) (after : State) → removed ≡ selected_removed view.document view.time → is_selected view.document ≡ false
+    → is_some (range_at_cursor removed direction) ≡ false → after ≡ with_document view removed → IfOk r (λ b. b ≡ has after)
     → IfOk r (λ b. b ≡ removes_or state (is_some (range_at_cursor state.document direction) || has state))
-answered_unhit r has direction {view} is removed after found gone none found_is unhit symbol_after_is h =
+answered_unhit r has direction {view} is removed after gone none unhit stays h =
     answered_unselected r (λ (s : State). is_some (range_at_cursor s.document direction) || has s) is removed gone none
-    (IfOk-weaker r (λ b. b ≡ has (with_document view after)) (λ b. b ≡ (is_some (range_at_cursor removed direction) || has (with_document view removed)))
-    (λ b e. e ∙ ap (λ (d : DocumentState). has (with_document view d)) stays
-    ∙ sym (ap (λ (t : Bool). t || has (with_document view removed)) (ap is_some (sym found_is) ∙ unhit))) h)
-  where
-    stays : after ≡ removed
-    stays = symbol_after_is ∙ ap (λ (o : Option AtomicRange). removed_range_or o removed view.time removed) (sym found_is ∙ none_of_test found unhit)
+    (IfOk-weaker r (λ b. b ≡ has after) (λ b. b ≡ (is_some (range_at_cursor removed direction) || has (with_document view removed)))
+    (λ b e. e ∙ ap has stays ∙ sym (ap (λ (t : Bool). t || has (with_document view removed)) unhit)) h)
+
+-- a range that was there is removed, whatever is removed otherwise
+pub hit_removed : (found : Option AtomicRange) (state new other : State) → is_some found ≡ true → new ≡ cursor_range_removed_or found state state
+    → new ≡ cursor_range_removed_or found state other
+hit_removed None state new other some h = absurd (true≢false (sym some))
+hit_removed (Some range) state new other some h = h
+
+-- without one the state stays, and the other removal is made
+pub unhit_stays : (found : Option AtomicRange) (state new : State) → is_some found ≡ false → new ≡ cursor_range_removed_or found state state → new ≡ state
+unhit_stays None state new none h = h
+unhit_stays (Some range) state new none h = absurd (true≢false none)
+
+pub unhit_removed : (found : Option AtomicRange) (state other : State) → is_some found ≡ false → other ≡ cursor_range_removed_or found state other
+unhit_removed None state other none = refl
+unhit_removed (Some range) state other none = absurd (true≢false none)
 
 -- a range that was found at the cursor then is one of the state
 pub range_found : {view state : State} → view ≡ state → (removed : DocumentState) → removed ≡ selected_removed view.document view.time → is_selected view.document ≡ false

@@ -1,5 +1,5 @@
 -- The lines that an edit wraps are those that its splices wrap.
-use Rattle.std.proofs.Common.{ℕ, Bool, List, [], ◌∷◌, ◌++◌, ap, refl, sym, subst}
+use Rattle.std.proofs.Common.{◌≡◌, ℕ, Bool, List, [], ◌∷◌, ◌++◌, ap, refl, sym, subst}
 use Rattle.textarea_lines.specs.LineWraps.{WrapsForSplices}
 use Rattle.textarea_lines.specs.TextLayout.{TextAndLayout}
 use Rattle.textarea_text.specs.Splice.{Fits, Splice}
@@ -10,7 +10,8 @@ use Rattle.textarea_document.specs.Sound.{IsSound}
 use Rattle.textarea_document.specs.Splices.{redo_splices, undo_splices}
 use Rattle.textarea_document.specs.DocumentState.{DocumentState}
 use Rattle.tui_textarea.proofs.Acting.{Past}
-use Rattle.tui_textarea.proofs.Stepping.{Reckoning, LayoutAndRanges}
+use Rattle.tui_textarea.proofs.Settling.{LayoutAndRanges, layout_and_ranges}
+use Rattle.tui_textarea.proofs.Stepping.{Reckoning}
 
 -- the law of documents for an edit, an undo and a redo
 abbrev pub EditsWrap : Type 0
@@ -29,11 +30,14 @@ spliced_on : (old between new : TextAndLayout) (first second : List Splice) → 
 spliced_on old between new [] second h k = subst (λ (l : TextAndLayout). WrapsForSplices l second new) h k
 spliced_on old between new (splice ∷ first) second h k = (h.0, h.1, spliced_on h.0 between new first second h.2 k)
 
+spliced_as : (old new other : DocumentState) (splices : List Splice) → layout_and_ranges other ≡ layout_and_ranges new → SplicedBy old splices new → SplicedBy old splices other
+spliced_as old new other splices is h = subst (WrapsForSplices (text_and_layout old) splices) (sym (ap (λ (s : LayoutAndRanges). s.0) is)) h
+
 -- the lines that are wrapped by an edit's splice, by none, and by several
 pub reckoned : EditsWrap → Reckoning SplicedBy
 reckoned cut = record {
   none = λ old new same. ap (λ (s : LayoutAndRanges). s.0) same;
-  same = λ old new other splices is h. subst (WrapsForSplices (text_and_layout old) splices) (sym (ap (λ (s : LayoutAndRanges). s.0) is)) h;
+  same = spliced_as;
   two = λ old between new first second h k. spliced_on (text_and_layout old) (text_and_layout between) (text_and_layout new) first second h k;
   one = λ document splice typed now fits whole. (text_and_layout (after_edit document splice typed now), cut document splice typed now fits, refl);
 }
@@ -41,4 +45,4 @@ reckoned cut = record {
 -- ---- calls
 
 pub past_wraps : UndosWrap → RedosWrap → Past SplicedBy
-past_wraps undos redos = record { undos = undos; redos = redos; stays = λ document. refl }
+past_wraps undos redos = record { undos = undos; redos = redos; stays = λ document. refl; same = spliced_as }

@@ -6,6 +6,7 @@ use Rattle.std.specs.Str.{chars}
 use Rattle.textarea_document.specs.Changes.{ChangeView, change_view}
 use Rattle.textarea_view.specs.Placements.{cell_of_position}
 use Rattle.textarea_data.specs.declared.cursor.CursorRenderMode as modes
+use Rattle.textarea_data.specs.declared.cursor.CursorUnit as units
 use Rattle.textarea_data.specs.declared.range.AtomicRange.{AtomicRange}
 use Rattle.textarea_data.specs.declared.range.RejectedAtomicRange.{RejectedAtomicRange}
 use Rattle.textarea_screen.specs.declared.screen.alignment.Alignment as alignments
@@ -35,6 +36,7 @@ pub data CallResult : Type 0 where
   Style : styles.Style → CallResult
   Character : Option ℕ → CallResult
   CursorRenderMode : modes.CursorRenderMode → CallResult
+  CursorUnit : units.CursorUnit → CallResult
   Alignment : alignments.Alignment → CallResult
   Number : ℕ → CallResult
   Cursor : places.Place → CallResult
@@ -57,6 +59,7 @@ call_result (returned.Position position) = Position (option_map cell_of_position
 call_result (returned.Style style) = Style style
 call_result (returned.Character character) = Character character
 call_result (returned.CursorRenderMode mode) = CursorRenderMode mode
+call_result (returned.CursorUnit unit) = CursorUnit unit
 call_result (returned.Alignment alignment) = Alignment alignment
 call_result (returned.Number number) = Number number
 call_result (returned.Cursor cursor) = Cursor cursor

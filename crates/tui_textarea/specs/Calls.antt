@@ -17,14 +17,18 @@ use Rattle.textarea_document.specs.Edits.{range_at_cursor, has_symbols}
 use Rattle.textarea_document.specs.Indenting.{indent_splices, lines_indented, lines_outdented, outdent_splices, shifts_lines}
 use Rattle.textarea_document.specs.Moving.{has_line_above, has_line_below, lines_moved_down, lines_moved_up, move_down_splices, move_up_splices}
 use Rattle.textarea_document.specs.Outcomes.{after_redo, run_ended, after_undo}
-use Rattle.textarea_document.specs.Replacing.{range_splices, replaces, stretch_symbols}
+use Rattle.textarea_document.specs.Replacing.{stretch_symbols}
 use Rattle.textarea_document.specs.Selection.{is_selected, lines_duplicated, selection_duplication}
 use Rattle.textarea_document.specs.Selection as document_selection
-use Rattle.textarea_document.specs.Splices.{after_splices, before_splices, break_splices, cursor_range_splices, redo_splices, selected_splices, undo_splices}
+use Rattle.textarea_document.specs.Splices.{break_splices, redo_splices, selected_splices, undo_splices}
+use Rattle.textarea_data.specs.declared.range.AtomicCursorBias.TheVariants.{Forward}
 use Rattle.tui_textarea.specs.State.{State, with_change_log, with_changes_taken, with_document, with_other_lines}
-use Rattle.tui_textarea.specs.Splices.{ahead_splices, char_splices, clear_splices, line_end_splices, line_head_splices, selected_splices_or, str_splices, tab_splices, word_after_splices, word_before_splices}
+use Rattle.tui_textarea.specs.Units.{settled}
+use Rattle.tui_textarea.specs.CallUnits.{settled_after}
+use Rattle.tui_textarea.specs.Splices.{ahead_splices, atomic_range_splices, char_splices, clear_splices, line_end_splices, line_head_splices, selected_splices_or, str_splices, symbol_after_splices, symbol_before_splices}
+use Rattle.tui_textarea.specs.Splices.{tab_splices, word_after_splices, word_before_splices}
 use Rattle.tui_textarea.specs.Edits.{inserts_tab, inserts_text, char_inserted, newline_inserted, tab_inserted, str_inserted}
-use Rattle.tui_textarea.specs.Guards.{admitted, admitted_between, admitted_for, admitted_over_selection, barred_after}
+use Rattle.tui_textarea.specs.Guards.{admitted, admitted_for, admitted_over_selection, barred_after, replaces_whole, whole_range_replaced, whole_range_splices}
 use Rattle.tui_textarea.specs.Guards.{bars_break, bars_character, bars_duplicate, bars_each, bars_indent, bars_tab, has_several_lines, is_barred, is_editable, removable_range, single_line_set}
 use Rattle.tui_textarea.specs.Grouping.{typing_ended, undo_group_begun, undo_group_ended}
 use Rattle.tui_textarea.specs.Removals.{break_before_removed, text_cleared, has_ahead, has_before, has_after, has_break_before, has_line_before, has_line_after, has_word_before}
@@ -43,7 +47,7 @@ use Rattle.tui_textarea.specs.Moves.{gone_to}
 use Rattle.tui_textarea.specs.Measure.{reads_rows, with_surround}
 use Rattle.tui_textarea.specs.Search.{match_count, match_index, next_match, previous_match, after_search, with_pattern, with_search_text}
 use Rattle.tui_textarea.specs.Patterns.{IsNewPattern}
-use Rattle.tui_textarea.specs.Replacing.{match_at_cursor, match_replaced, match_splices, matches_replaced, matches_splices, replaceable, with_range_replaced}
+use Rattle.tui_textarea.specs.Replacing.{match_at_cursor, match_replaced, match_splices, matches_replaced, matches_splices, replaceable}
 use Rattle.tui_textarea.specs.Ranges.{cursor_normalized, atomic_range_removed, ranges_accepted, ranges_cleared}
 use Rattle.tui_textarea.specs.CallResults as reported
 use Rattle.tui_textarea.specs.CallResults.{CallResult, Done, Flag, Range, Rejected, Text}
@@ -61,7 +65,7 @@ ranges_result (range ∷ rejected) = Rejected (range ∷ rejected)
 
 -- the ranges are set if none is rejected, and otherwise nothing changes
 abbrev pub with_ranges_if : List RejectedAtomicRange → State → List AtomicRange → State
-with_ranges_if [] state ranges = ranges_accepted state ranges
+with_ranges_if [] state ranges = settled Forward (ranges_accepted state ranges)
 with_ranges_if (range ∷ rejected) state ranges = state
 
 -- the result of the call; of one that sets a pattern, if the pattern is accepted. The results of a
@@ -69,11 +73,11 @@ with_ranges_if (range ∷ rejected) state ranges = state
 abbrev pub result_of_call : State → Call → CallResult
 result_of_call state (call.InsertStr text) = Flag (is_editable state && inserts_text state (admitted_over_selection state (fragment_symbols (chars text.now))))
 result_of_call state (call.InsertPasted text) = Flag (is_editable state && inserts_text state (admitted_over_selection state (pasted_symbols (chars text.now))))
-result_of_call state call.IndentLines = Flag (not (bars_indent state) && shifts_lines state.document false)
-result_of_call state call.OutdentLines = Flag (is_editable state && shifts_lines state.document true)
+result_of_call state call.IndentLines = Flag (not (bars_indent state) && shifts_lines state.document None)
+result_of_call state call.OutdentLines = Flag (is_editable state && shifts_lines state.document (Some state.settings.cursor_unit))
 result_of_call state call.MoveLinesUp = Flag (is_editable state && has_line_above state.document)
 result_of_call state call.MoveLinesDown = Flag (is_editable state && has_line_below state.document)
-result_of_call state (call.ReplaceRange from to text) = Flag (is_editable state && replaces state.document.text from to (admitted_between state from to (fragment_symbols (chars text.now))))
+result_of_call state (call.ReplaceRange from to text) = Flag (is_editable state && replaces_whole state from to (fragment_symbols (chars text.now)))
 result_of_call state (call.ReplaceMatch text) = Flag (is_editable state && is_some (match_at_cursor state))
 result_of_call state (call.ReplaceAll text) = reported.Number (if bars_each state text then 0 else length (replaceable state))
 result_of_call state call.InsertTab = Flag (not (bars_tab state) && inserts_tab state)
@@ -127,6 +131,7 @@ result_of_call state call.ReadOnly = Flag state.settings.read_only
 result_of_call state (call.SetSingleLine single_line) = Flag (not (single_line && has_several_lines state))
 result_of_call state call.SingleLine = Flag state.settings.single_line
 result_of_call state call.MaxChars = reported.NumberIfAny state.settings.max_chars
+result_of_call state call.CursorUnit = reported.CursorUnit state.settings.cursor_unit
 result_of_call state call.WrapMode = reported.WrapMode state.document.layout.settings.mode
 result_of_call state call.LineNumberStyle = reported.StyleIfVisible (number_style state)
 result_of_call state call.PlaceholderStyle = reported.StyleIfVisible (style_with_lines state.surround.placeholder.lines state.surround.placeholder.style)
@@ -140,8 +145,8 @@ abbrev pub with_lines : {Z : Type 0} → State → List (String Z) → Place →
 with_lines state lines cursor =
     with_other_lines state (lines_replaced state.document (lines_of lines) cursor)
 
--- the state after a call that no guard leaves out; after one that sets a pattern, if
--- the pattern is accepted. The states after moves, scrolls, inputs and drawings are defined elsewhere
+-- the state after a call that no guard leaves out, before cursor and anchor are moved out of clusters;
+-- after one that sets a pattern, if the pattern is accepted. The states after moves, scrolls, inputs and drawings are defined elsewhere
 abbrev pub unguarded_after : State → Call → State
 unguarded_after state (call.InsertChar c) = char_inserted state c
 unguarded_after state (call.InsertStr text) = str_inserted state (admitted_over_selection state (fragment_symbols (chars text.now)))
@@ -150,10 +155,10 @@ unguarded_after state call.InsertTab = tab_inserted state
 unguarded_after state call.InsertNewline = newline_inserted state
 unguarded_after state call.DuplicateLine = with_document state (lines_duplicated state.document state.time)
 unguarded_after state call.IndentLines = with_document state (lines_indented state.document state.settings.hard_tab_indent state.time)
-unguarded_after state call.OutdentLines = with_document state (lines_outdented state.document state.time)
+unguarded_after state call.OutdentLines = with_document state (lines_outdented state.document state.settings.cursor_unit state.time)
 unguarded_after state call.MoveLinesUp = with_document state (lines_moved_up state.document state.time)
 unguarded_after state call.MoveLinesDown = with_document state (lines_moved_down state.document state.time)
-unguarded_after state (call.ReplaceRange from to text) = with_range_replaced state from to (admitted_between state from to (fragment_symbols (chars text.now)))
+unguarded_after state (call.ReplaceRange from to text) = whole_range_replaced state from to (fragment_symbols (chars text.now))
 unguarded_after state (call.ReplaceMatch text) = match_replaced state (admitted_for (match_at_cursor state) state (fragment_symbols (chars text.now)))
 unguarded_after state (call.ReplaceAll text) = matches_replaced state (admitted state (fragment_symbols (chars text.now)))
 unguarded_after state (call.DeleteStr count) = unselected_or state (symbols_ahead_removed state count)
@@ -207,6 +212,7 @@ unguarded_after state (call.SetUndoGrouping groups) = record state { settings = 
 unguarded_after state (call.SetReadOnly read_only) = record state { settings = record state.settings { read_only = read_only } }
 unguarded_after state (call.SetSingleLine single_line) = single_line_set state single_line
 unguarded_after state (call.SetMaxChars maximum) = record state { settings = record state.settings { max_chars = maximum } }
+unguarded_after state (call.SetCursorUnit unit) = record state { settings = record state.settings { cursor_unit = unit } }
 unguarded_after state call.BeginUndoGroup = undo_group_begun state
 unguarded_after state call.EndUndoGroup = undo_group_ended state
 unguarded_after state call.EndRun = typing_ended state
@@ -228,9 +234,10 @@ unguarded_after state (call.CustomHighlight range style priority) = highlighted 
 unguarded_after state call.ClearCustomHighlight = unhighlighted state
 unguarded_after state call = state
 
--- the state after the call
+-- the state after the call: one that no guard leaves out moves the cursor out of clusters, if this goes
+-- by clusters
 abbrev pub state_after : State → Call → State
-state_after state made = if is_barred state made then barred_after state made else unguarded_after state made
+state_after state made = if is_barred state made then barred_after state made else settled_after made (unguarded_after state made)
 
 -- The splices of the call in this state, one after another, if no guard leaves it out. An
 -- insertion over selected text has two, first the removal of that text; a replacement has at most
@@ -247,25 +254,25 @@ unguarded_splices state call.InsertNewline = str_splices state (Break ∷ [])
 unguarded_splices state call.Paste = str_splices state (admitted_over_selection state state.yank)
 unguarded_splices state call.DuplicateLine = selection_duplication state.document ∷ []
 unguarded_splices state call.IndentLines = indent_splices state.document state.settings.hard_tab_indent state.time
-unguarded_splices state call.OutdentLines = outdent_splices state.document state.time
+unguarded_splices state call.OutdentLines = outdent_splices state.document state.settings.cursor_unit state.time
 unguarded_splices state call.MoveLinesUp = move_up_splices state.document state.time
 unguarded_splices state call.MoveLinesDown = move_down_splices state.document state.time
-unguarded_splices state (call.ReplaceRange from to text) = range_splices state.document from to (admitted_between state from to (fragment_symbols (chars text.now))) state.time
+unguarded_splices state (call.ReplaceRange from to text) = whole_range_splices state from to (fragment_symbols (chars text.now))
 unguarded_splices state (call.ReplaceMatch text) = match_splices state (admitted_for (match_at_cursor state) state (fragment_symbols (chars text.now)))
 unguarded_splices state (call.ReplaceAll text) = matches_splices state (admitted state (fragment_symbols (chars text.now)))
 unguarded_splices state (call.DeleteStr count) = selected_splices_or state.document (ahead_splices state.document count)
 unguarded_splices state call.DeleteNewline = selected_splices_or state.document (break_splices state.document)
-unguarded_splices state call.DeleteChar = selected_splices_or state.document (before_splices state.document)
-unguarded_splices state call.DeleteNextChar = selected_splices_or state.document (after_splices state.document)
-unguarded_splices state call.DeleteLineByEnd = selected_splices_or state.document (line_end_splices state.document)
+unguarded_splices state call.DeleteChar = selected_splices_or state.document (symbol_before_splices state)
+unguarded_splices state call.DeleteNextChar = selected_splices_or state.document (symbol_after_splices state)
+unguarded_splices state call.DeleteLineByEnd = selected_splices_or state.document (line_end_splices state)
 unguarded_splices state call.DeleteLineByHead = selected_splices_or state.document (line_head_splices state.document)
-unguarded_splices state call.DeleteWord = selected_splices_or state.document (word_before_splices state.document)
-unguarded_splices state call.DeleteNextWord = selected_splices_or state.document (word_after_splices state.document)
+unguarded_splices state call.DeleteWord = selected_splices_or state.document (word_before_splices state)
+unguarded_splices state call.DeleteNextWord = selected_splices_or state.document (word_after_splices state)
 unguarded_splices state call.Clear = clear_splices state.document
 unguarded_splices state call.Cut = selected_splices state.document
 unguarded_splices state call.Undo = undo_splices state.document
 unguarded_splices state call.Redo = redo_splices state.document
-unguarded_splices state (call.DeleteAtomicRangeAtCursor direction) = cursor_range_splices state.document direction
+unguarded_splices state (call.DeleteAtomicRangeAtCursor direction) = atomic_range_splices state direction
 unguarded_splices state call = []
 
 -- the splices of the call: none, if a guard leaves it out

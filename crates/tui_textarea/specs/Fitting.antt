@@ -68,7 +68,7 @@ fits_duplicate state =
 -- a tab fits at the start of each of these lines
 abbrev pub fits_indent : State → Bool
 fits_indent state =
-    fits_for state 0 (length (line_stretches state.document false) * length (tab_of state.document state.settings.hard_tab_indent))
+    fits_for state 0 (length (line_stretches state.document None) * length (tab_of state.document state.settings.hard_tab_indent))
 
 -- the symbols fit in place of each of these stretches
 abbrev pub removed_by : List (ℕ × ℕ) → ℕ

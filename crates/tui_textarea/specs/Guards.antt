@@ -6,20 +6,24 @@ use Rattle.std.specs.Str.{chars}
 use Rattle.textarea_calls.specs.Edits.{edits}
 use Rattle.textarea_calls.specs.declared.call.Call.{Call}
 use Rattle.textarea_calls.specs.declared.call.Call.TheVariants as call
+use Rattle.textarea_data.specs.declared.range.AtomicCursorBias.TheVariants.{Forward}
 use Rattle.textarea_data.specs.declared.range.AtomicDeleteDirection.{AtomicDeleteDirection}
 use Rattle.textarea_data.specs.declared.range.AtomicRange.{AtomicRange}
 use Rattle.textarea_document.specs.DocumentState.{lines_replaced}
 use Rattle.textarea_document.specs.Edits.{range_at_cursor}
+use Rattle.textarea_document.specs.Replacing.{range_splices, replaces}
 use Rattle.textarea_history.specs.Log.{empty_log}
 use Rattle.textarea_search.specs.declared.search.text_matches.TextMatch.{TextMatch}
 use Rattle.textarea_text.specs.Fragment.{fragment_symbols}
 use Rattle.textarea_text.specs.Place.{Place}
+use Rattle.textarea_text.specs.Splice.{Splice}
 use Rattle.textarea_text.specs.Text.{Symbol, Break, Character, lines, lines_of}
 use Rattle.tui_textarea.specs.Edits.{breaks_line}
 use Rattle.tui_textarea.specs.Fitting.{fitting_between, fitting_selection, fits_duplicate, fits_each, fits_indent, has_no_room}
-use Rattle.tui_textarea.specs.Replacing.{end_of_match, replaceable, start_of_match}
+use Rattle.tui_textarea.specs.Replacing.{end_of_match, replaceable, start_of_match, with_range_replaced}
 use Rattle.tui_textarea.specs.Selection.{selection_copied}
 use Rattle.tui_textarea.specs.State.{State, with_other_lines}
+use Rattle.tui_textarea.specs.Units.{settled, whole_stretch}
 
 -- ---- read only
 
@@ -43,7 +47,7 @@ bars_lines state rows = state.settings.single_line && nat_lt 1 (length rows)
 -- these lines replace the old ones, unless they are left out
 abbrev pub other_lines_set : State → List (List ℕ) → Place → State
 other_lines_set state rows cursor =
-    if bars_lines state rows then state else with_other_lines state (lines_replaced state.document rows cursor)
+    if bars_lines state rows then state else settled Forward (with_other_lines state (lines_replaced state.document rows cursor))
 
 -- what is inserted of a text: with a space for each break, in a text area of a single line
 abbrev pub spaced : Symbol → Symbol
@@ -64,6 +68,28 @@ admitted_between state from to symbols = fitting_between state from to (admitted
 abbrev pub admitted_for : Option TextMatch → State → List Symbol → List Symbol
 admitted_for None state symbols = symbols
 admitted_for (Some found) state symbols = admitted_between state (start_of_match found) (end_of_match found) symbols
+
+-- what replaces the text between two positions, what is replaced being whole characters; the state after
+-- that, its splices, and whether it removes or inserts a symbol
+abbrev pub admitted_whole : State → Place → Place → List Symbol → List Symbol
+admitted_whole state from to symbols =
+    let ends = whole_stretch state from to in
+    admitted_between state ends.0 ends.1 symbols
+
+abbrev pub whole_range_replaced : State → Place → Place → List Symbol → State
+whole_range_replaced state from to symbols =
+    let ends = whole_stretch state from to in
+    with_range_replaced state ends.0 ends.1 (admitted_whole state from to symbols)
+
+abbrev pub whole_range_splices : State → Place → Place → List Symbol → List Splice
+whole_range_splices state from to symbols =
+    let ends = whole_stretch state from to in
+    range_splices state.document ends.0 ends.1 (admitted_whole state from to symbols) state.time
+
+abbrev pub replaces_whole : State → Place → Place → List Symbol → Bool
+replaces_whole state from to symbols =
+    let ends = whole_stretch state from to in
+    replaces state.document.text ends.0 ends.1 (admitted_whole state from to symbols)
 
 -- a text of several lines can't be a single line
 abbrev pub has_several_lines : State → Bool

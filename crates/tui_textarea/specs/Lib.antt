@@ -12,6 +12,9 @@ pub mod Edits
 pub mod Grouping
 pub mod Fitting
 pub mod Guards
+pub mod Units
+pub mod WholeMatches
+pub mod CallUnits
 pub mod GroupLaw
 pub mod Removals
 pub mod Selection

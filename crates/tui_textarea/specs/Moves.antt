@@ -16,6 +16,7 @@ use Rattle.tui_textarea.specs.Hit.{IsNearestVisible}
 use Rattle.textarea_document.specs.Target.{IsDocumentTarget}
 use Rattle.tui_textarea.specs.Drawing.{viewport_scrolled}
 use Rattle.tui_textarea.specs.State.{State, with_document}
+use Rattle.tui_textarea.specs.Units.{settled}
 
 -- the selection's beginning after a move: with Shift the open selection's, or the old cursor;
 -- without Shift there is none
@@ -51,10 +52,16 @@ IsTarget state move.InViewport found =
 IsTarget state other found = IsDocumentTarget state.document other found
 
 -- the state after the move, with or without Shift: the cursor is at the target, if there is one
-pub record IsMovedWith (old : State) (shift : Bool) (cursor_move : CursorMove) (new : State) : Type 0 where
+pub record IsMovedTo (old : State) (shift : Bool) (cursor_move : CursorMove) (new : State) : Type 0 where
   pub found : Option Place
   pub target_is : IsTarget old cursor_move found
   pub new_is : new ≡ after_move_by old shift (pushed old.document.ranges cursor_move found)
+
+-- and after it cursor and anchor are inside no cluster if the cursor goes by clusters
+pub record IsMovedWith (old : State) (shift : Bool) (cursor_move : CursorMove) (new : State) : Type 0 where
+  pub found : Option Place
+  pub target_is : IsTarget old cursor_move found
+  pub new_is : new ≡ settled (bias_of cursor_move) (after_move_by old shift (pushed old.document.ranges cursor_move found))
 
 -- the state after the call that goes to a position: the cursor is at the nearest position of the
 -- text, or at the end of the atomic range that strictly contains it

@@ -65,24 +65,25 @@ pub use Rattle.tui_textarea.specs.GroupLaw.{IsEditUndoneAtOnce, IsInsertion, IsR
 pub use Rattle.tui_textarea.specs.Grouping.{call_begun, call_ended, closed_if, opens_group, typing_ended, undo_group_begun, undo_group_ended, with_group}
 pub use Rattle.tui_textarea.specs.Edits.{fitting_spaces}
 pub use Rattle.tui_textarea.specs.Fitting.{fitting_selection}
+pub use Rattle.tui_textarea.specs.Units.{IsSettled, settled, whole_end, whole_start}
 pub use Rattle.tui_textarea.specs.Guards.{admitted, admitted_between, admitted_for, admitted_over_selection, bars_break, bars_character, bars_duplicate, bars_each, bars_indent, bars_lines, bars_tab}
-pub use Rattle.tui_textarea.specs.Guards.{SetsLines, has_several_lines, is_editable, other_lines_set, removable_range, single_line_set, unless_read_only}
+pub use Rattle.tui_textarea.specs.Guards.{SetsLines, has_several_lines, is_editable, other_lines_set, removable_range, replaces_whole, single_line_set, unless_read_only, whole_range_replaced}
 pub use Rattle.tui_textarea.specs.Hit.{IsHitTest, IsLastArea, IsWithoutCell}
 pub use Rattle.tui_textarea.specs.Input.{ActMayRunOutOfMemory, IsAfterAction, IsInputOutOfMemory, action_flag, asked_by, asked_without_shortcuts}
 pub use Rattle.tui_textarea.specs.LayoutCalls.{indent_of}
 pub use Rattle.tui_textarea.specs.Measure.{IsMeasured, IsMeasuredAround, reads_rows, with_surround}
-pub use Rattle.tui_textarea.specs.Moves.{IsMoved, gone_to, IsMovedWith, IsScrolled, IsScrolledWith, IsTarget, anchor_with, bias_of}
+pub use Rattle.tui_textarea.specs.Moves.{IsMoved, gone_to, IsMovedTo, IsMovedWith, IsScrolled, IsScrolledWith, IsTarget, anchor_with, bias_of}
 pub use Rattle.tui_textarea.specs.Outcomes.{IsAfterCall, IsAfterOutOfMemory, IsResultOf, RanOutOfMemory}
 pub use Rattle.tui_textarea.specs.Patterns.{IsNewFailure}
-pub use Rattle.tui_textarea.specs.Ranges.{atomic_range_removed, cursor_normalized, ranges_accepted, ranges_cleared}
+pub use Rattle.tui_textarea.specs.Ranges.{atomic_range_removed, whole_range_removed, cursor_normalized, ranges_accepted, ranges_cleared}
 pub use Rattle.tui_textarea.specs.RangesOverCalls.{IsUndoOrRedo, RangesFollowCall, RangesOfRun}
 pub use Rattle.tui_textarea.specs.Removals.{back_to_word_removed, break_before_removed, has_after, has_ahead, has_before, has_break_before, has_line_after, has_line_before}
 pub use Rattle.tui_textarea.specs.Removals.{has_word_after, has_word_before, index_ahead, line_end_removed, line_head_removed, on_to_word_end_removed, removes_or}
-pub use Rattle.tui_textarea.specs.Removals.{symbol_after_removed, symbol_before_removed, symbols_ahead_removed, text_cleared, unselected_or, word_after_removed}
+pub use Rattle.tui_textarea.specs.Removals.{cursor_range_removed_or, symbol_after_removed, symbol_before_removed, symbols_ahead_removed, text_cleared, unselected_or, word_after_removed}
 pub use Rattle.tui_textarea.specs.Removals.{word_before_removed, yanked}
 pub use Rattle.tui_textarea.specs.Rendered.{IsDrawn}
 pub use Rattle.tui_textarea.specs.Run.{Leads, Run, ShowsSame}
-pub use Rattle.tui_textarea.specs.Search.{after_search, found_match, match_count, match_index, next_match, previous_match, starts_in, with_pattern, with_search_text}
+pub use Rattle.tui_textarea.specs.Search.{after_search, found_match, match_count, match_index, match_starts, next_match, previous_match, starts_in, with_pattern, with_search_text}
 pub use Rattle.tui_textarea.specs.Selection.{IsInsertOutOfMemory, all_selected, selection_cancelled, selection_copied, selection_cut, selection_started, unselected}
 pub use Rattle.tui_textarea.specs.State.{State, default_settings, new_state, text_of_each, with_change_log, with_changes_taken, with_document, with_other_lines}
 pub use Rattle.tui_textarea.specs.TextAreaLaw.{HasRowsFromScratch, PastesCopy}

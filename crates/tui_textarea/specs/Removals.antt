@@ -9,6 +9,7 @@ use Rattle.textarea_data.specs.declared.range.AtomicRange.{AtomicRange}
 use Rattle.textarea_ranges.specs.Lookup.{range_start, range_end}
 use Rattle.textarea_document.specs.Target.{word_end_after, word_start_before}
 use Rattle.tui_textarea.specs.State.{State, with_document}
+use Rattle.tui_textarea.specs.Units.{earlier_start, later_end, whole_end, whole_start}
 use Rattle.tui_textarea.specs.Selection.{selection_cancelled, unselected}
 
 -- ---- where nothing is selected
@@ -17,13 +18,24 @@ use Rattle.tui_textarea.specs.Selection.{selection_cancelled, unselected}
 unfoldable pub yanked : State → Place → Place → State
 yanked state from to = record state { document = between_removed state.document from to state.time; yank = removed_symbols state.document from to }
 
--- the atomic range at the cursor, backward, is removed, or else the symbol before the cursor, if
--- there is one, as a typed edit; and the same forward
+-- the text from this position to the cursor is removed; without one it is the atomic range at the
+-- cursor, backward, or else the symbol before the cursor, if there is one, as a typed edit
+abbrev pub removed_from : Option Place → State → State
+removed_from None state = with_document state (removed_before state.document state.settings.undo_coalescing state.time)
+removed_from (Some start) state = with_document state (between_removed state.document start state.document.cursor state.time)
+
+-- the same forward
+abbrev pub removed_up_to : Option Place → State → State
+removed_up_to None state = with_document state (removed_after state.document state.settings.undo_coalescing state.time)
+removed_up_to (Some stop) state = with_document state (between_removed state.document state.document.cursor stop state.time)
+
+-- the symbol before the cursor is removed, with all of the cluster and the range that have it if the
+-- cursor goes by clusters; and the same forward
 abbrev pub symbol_before_removed : State → State
-symbol_before_removed state = with_document state (removed_before state.document state.settings.undo_coalescing state.time)
+symbol_before_removed state = removed_from (earlier_start state) state
 
 abbrev pub symbol_after_removed : State → State
-symbol_after_removed state = with_document state (removed_after state.document state.settings.undo_coalescing state.time)
+symbol_after_removed state = removed_up_to (later_end state) state
 
 -- the break before the cursor's line is removed, if there is one
 abbrev pub break_before_removed : State → State
@@ -60,17 +72,18 @@ abbrev pub line_head_removed : State → State
 line_head_removed state =
     if state.document.cursor.1 == 0 then break_before_removed state else yanked state (in_line state.document 0) state.document.cursor
 
--- the range is removed and not yanked, if there is one; otherwise it is the other state
+-- the range is removed and not yanked, with the clusters that it shares, if there is one; otherwise it
+-- is the other state
 abbrev pub cursor_range_removed_or : Option AtomicRange → State → State → State
 cursor_range_removed_or None state other = other
-cursor_range_removed_or (Some range) state other = with_document state (between_removed state.document (range_start range) (range_end range) state.time)
+cursor_range_removed_or (Some range) state other = with_document state (between_removed state.document (whole_start state (range_start range)) (whole_end state (range_end range)) state.time)
 
 -- the text from the start of the word before the cursor, or from the line's start, to the cursor;
 -- at the line's start the break before it
 unfoldable pub back_to_word_removed : State → State
 back_to_word_removed state =
     if state.document.cursor.1 == 0 then break_before_removed state
-    else yanked state (in_line state.document (word_start_before (cursor_line state.document) state.document.cursor.1)) state.document.cursor
+    else yanked state (whole_start state (in_line state.document (word_start_before (cursor_line state.document) state.document.cursor.1))) state.document.cursor
 
 -- the range at the cursor, backward, or else back to the word's start
 abbrev pub word_before_removed : State → State
@@ -80,7 +93,7 @@ word_before_removed state = cursor_range_removed_or (range_before state.document
 unfoldable pub on_to_word_end_removed : State → State
 on_to_word_end_removed state =
     if is_at_line_end state.document then symbol_after_removed state
-    else yanked state state.document.cursor (in_line state.document (word_end_after (cursor_line state.document) state.document.cursor.1))
+    else yanked state state.document.cursor (whole_end state (in_line state.document (word_end_after (cursor_line state.document) state.document.cursor.1)))
 
 -- the range at the cursor, forward, or else up to the word's end
 abbrev pub word_after_removed : State → State

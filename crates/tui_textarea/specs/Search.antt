@@ -9,8 +9,11 @@ use Rattle.textarea_search.specs.PlainTexts.{text_pattern}
 use Rattle.textarea_search.specs.Starts.{found_start, starts_from}
 use Rattle.textarea_search.specs.declared.search.direction.Direction.{Direction}
 use Rattle.textarea_search.specs.declared.search.direction.Direction.TheVariants.{Forward, Back}
+use Rattle.textarea_data.specs.declared.cursor.CursorUnit.{CursorUnit}
+use Rattle.textarea_data.specs.declared.cursor.CursorUnit.TheVariants as unit
 use Rattle.textarea_document.specs.Outcomes.{after_move}
 use Rattle.tui_textarea.specs.State.{State, with_document}
+use Rattle.tui_textarea.specs.WholeMatches.{cluster_starts}
 
 -- the pattern that a text sets: none if it is empty
 abbrev pub pattern_in : List ℕ → Option (List ℕ)
@@ -30,18 +33,26 @@ abbrev pub starts_in : Option (List ℕ) → List Symbol → List Place
 starts_in None text = []
 starts_in (Some pattern) text = starts_from (match_columns pattern) 0 (map encode_utf8_all (lines text))
 
+-- those that count: if the cursor goes by clusters, those of the matches that cut none
+abbrev pub unit_starts : CursorUnit → Option (List ℕ) → List Symbol → List Place
+unit_starts unit.Character pattern text = starts_in pattern text
+unit_starts unit.Cluster pattern text = cluster_starts pattern (lines text)
+
+abbrev pub match_starts : State → List Place
+match_starts state = unit_starts state.settings.cursor_unit state.pattern state.document.text
+
 -- the number of matches in the text
 abbrev pub match_count : State → ℕ
-match_count state = length (starts_in state.pattern state.document.text)
+match_count state = length (match_starts state)
 
 -- the number, counted from 0, of the match that starts at the cursor, if one does
 abbrev pub match_index : State → Option ℕ
-match_index state = index_at state.document.cursor (starts_in state.pattern state.document.text)
+match_index state = index_at state.document.cursor (match_starts state)
 
 -- the position that a search from the cursor finds
 abbrev pub found_match : Direction → State → Bool → Option Place
 found_match direction state at_cursor =
-    found_start direction (starts_in state.pattern state.document.text) state.document.cursor at_cursor
+    found_start direction (match_starts state) state.document.cursor at_cursor
 
 -- the next start after the cursor or, if that counts, at it; past the text's end its first start
 abbrev pub next_match : State → Bool → Option Place

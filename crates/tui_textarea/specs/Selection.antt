@@ -4,7 +4,9 @@ use Rattle.textarea_text.specs.Place.{place_of}
 use Rattle.textarea_document.specs.Edits.{removed_symbols}
 use Rattle.textarea_document.specs.Outcomes.{after_move, unanchored}
 use Rattle.textarea_document.specs.Selection.{is_selected, selected, selection_end, selection_start, selected_removed}
+use Rattle.textarea_data.specs.declared.range.AtomicCursorBias.TheVariants.{Forward}
 use Rattle.tui_textarea.specs.State.{State, with_document}
+use Rattle.tui_textarea.specs.Units.{settled}
 
 -- the selected text is removed, if there is any: an edit of its own, which yanks nothing
 abbrev pub unselected : State → State
@@ -31,6 +33,7 @@ selection_cut state =
     if is_selected state.document then record (unselected state) { yank = removed_symbols state.document (selection_start state.document) (selection_end state.document) }
     else selection_cancelled state
 
--- the state after an insertion that ran out of memory: the old one, or it without the selected text
+-- the state after an insertion that ran out of memory: the old one, or it without the selected text,
+-- and with whole characters
 abbrev pub IsInsertOutOfMemory : State → State → Type 0
-IsInsertOutOfMemory old new = (new ≡ old) ⊎ (new ≡ unselected old)
+IsInsertOutOfMemory old new = (new ≡ old) ⊎ (new ≡ settled Forward (unselected old))

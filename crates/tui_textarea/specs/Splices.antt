@@ -1,11 +1,14 @@
 -- The splices of each edit, as functions of the state.
-use Rattle.std.specs.Prelude.{ℕ, ◌==◌, List, [], ◌∷◌, ◌++◌, length, nat_lt, if◌then◌else◌}
-use Rattle.textarea_text.specs.Place.{place_of}
+use Rattle.std.specs.Prelude.{ℕ, ◌==◌, List, [], ◌∷◌, ◌++◌, Option, None, Some, length, nat_lt, if◌then◌else◌}
+use Rattle.textarea_text.specs.Place.{Place, place_of}
 use Rattle.textarea_text.specs.Splice.{Splice}
 use Rattle.textarea_text.specs.Text.{Symbol, Break, Character}
-use Rattle.textarea_document.specs.Edits.{cursor_index, range_before, range_after, has_symbols}
+use Rattle.textarea_document.specs.Edits.{cursor_index, range_at_cursor, range_before, range_after, has_symbols}
 use Rattle.textarea_document.specs.Selection.{is_selected}
-use Rattle.textarea_document.specs.Splices.{after_splices, break_splices, insertion_splices, range_splices_or, removal_splices, selected_splices}
+use Rattle.textarea_data.specs.declared.range.AtomicDeleteDirection.{AtomicDeleteDirection}
+use Rattle.textarea_data.specs.declared.range.AtomicRange.{AtomicRange}
+use Rattle.textarea_ranges.specs.Lookup.{range_end, range_start}
+use Rattle.textarea_document.specs.Splices.{after_splices, before_splices, break_splices, insertion_splices, removal_splices, selected_splices}
 use Rattle.textarea_document.specs.DocumentState.{DocumentState}
 use Rattle.textarea_document.specs.Target.{word_end_after, word_start_before}
 use Rattle.tui_textarea.specs.Edits.{breaks_line, fitting_spaces}
@@ -13,6 +16,7 @@ use Rattle.tui_textarea.specs.LayoutCalls.{tab_length}
 use Rattle.tui_textarea.specs.Removals.{cursor_line, in_line, index_ahead, is_at_line_end}
 use Rattle.tui_textarea.specs.Selection.{unselected}
 use Rattle.tui_textarea.specs.State.{State}
+use Rattle.tui_textarea.specs.Units.{earlier_start, later_end, whole_end, whole_start}
 
 -- ---- insertions
 
@@ -45,10 +49,29 @@ ahead_splices document count =
     if nat_lt (cursor_index document) (index_ahead document count)
     then removal_splices document document.cursor (place_of document.text (index_ahead document count)) else []
 
+-- from this position to the cursor; without one the range at the cursor, backward, or else the symbol
+-- before it, if any; and the same forward
+abbrev pub splices_from : Option Place → DocumentState → List Splice
+splices_from None document = before_splices document
+splices_from (Some start) document = removal_splices document start document.cursor
+
+abbrev pub splices_up_to : Option Place → DocumentState → List Splice
+splices_up_to None document = after_splices document
+splices_up_to (Some stop) document = removal_splices document document.cursor stop
+
+-- the symbol before the cursor, with all of the cluster and the range that have it if the cursor goes
+-- by clusters; and the same forward
+abbrev pub symbol_before_splices : State → List Splice
+symbol_before_splices state = splices_from (earlier_start state) state.document
+
+abbrev pub symbol_after_splices : State → List Splice
+symbol_after_splices state = splices_up_to (later_end state) state.document
+
 -- from the cursor to the line's end, or at the end the symbol after it
-abbrev pub line_end_splices : DocumentState → List Splice
-line_end_splices document =
-    if is_at_line_end document then after_splices document
+abbrev pub line_end_splices : State → List Splice
+line_end_splices state =
+    let document = state.document in
+    if is_at_line_end document then symbol_after_splices state
     else removal_splices document document.cursor (in_line document (length (cursor_line document)))
 
 -- from the line's start to the cursor, or at the start the break before it
@@ -57,21 +80,33 @@ line_head_splices document =
     if document.cursor.1 == 0 then break_splices document
     else removal_splices document (in_line document 0) document.cursor
 
+-- the range, with the clusters that it shares, if there is one; otherwise the other splices
+abbrev pub whole_range_splices_or : Option AtomicRange → State → List Splice → List Splice
+whole_range_splices_or None state other = other
+whole_range_splices_or (Some range) state other =
+    removal_splices state.document (whole_start state (range_start range)) (whole_end state (range_end range))
+
+-- the range at the cursor in this direction, if there is one
+abbrev pub atomic_range_splices : State → AtomicDeleteDirection → List Splice
+atomic_range_splices state direction = whole_range_splices_or (range_at_cursor state.document direction) state []
+
 -- the range at the cursor, backward, or else from the word's start to the cursor, at the line's
 -- start the break before it
-abbrev pub word_before_splices : DocumentState → List Splice
-word_before_splices document =
-    range_splices_or (range_before document) document
+abbrev pub word_before_splices : State → List Splice
+word_before_splices state =
+    let document = state.document in
+    whole_range_splices_or (range_before document) state
     (if document.cursor.1 == 0 then break_splices document
-    else removal_splices document (in_line document (word_start_before (cursor_line document) document.cursor.1)) document.cursor)
+    else removal_splices document (whole_start state (in_line document (word_start_before (cursor_line document) document.cursor.1))) document.cursor)
 
 -- the range at the cursor, forward, or else up to the word's end, at the line's end the symbol
 -- after it
-abbrev pub word_after_splices : DocumentState → List Splice
-word_after_splices document =
-    range_splices_or (range_after document) document
-    (if is_at_line_end document then after_splices document
-    else removal_splices document document.cursor (in_line document (word_end_after (cursor_line document) document.cursor.1)))
+abbrev pub word_after_splices : State → List Splice
+word_after_splices state =
+    let document = state.document in
+    whole_range_splices_or (range_after document) state
+    (if is_at_line_end document then symbol_after_splices state
+    else removal_splices document document.cursor (whole_end state (in_line document (word_end_after (cursor_line document) document.cursor.1))))
 
 -- the whole text, if there is any
 abbrev pub clear_splices : DocumentState → List Splice

@@ -4,6 +4,7 @@ use Rattle.std.specs.Borrow.{Bor}
 use Rattle.std.specs.Str.{chars}
 use Rattle.textarea_text.specs.Text.{Symbol, joined}
 use Rattle.textarea_change.specs.declared.change.ChangeUnit.{ChangeUnit}
+use Rattle.textarea_data.specs.declared.cursor.CursorUnit.TheVariants.{Character}
 use Rattle.textarea_document.specs.Changes.{no_changes}
 use Rattle.textarea_document.specs.DocumentState.{DocumentState, changes_taken, new_document}
 use Rattle.textarea_wrap.specs.declared.wrap.WrapMode.TheVariants as mode
@@ -24,10 +25,10 @@ pub record State : Type 0 where
   pub surround : SurroundState
   pub drawing : DrawingState
 
--- the initial settings: tabs as spaces, typed edits do not join, no edits are grouped, and the text
--- can be edited, and have several lines
+-- the initial settings: tabs as spaces, typed edits do not join, no edits are grouped, the text can
+-- be edited, and have several lines, and the cursor goes by characters
 abbrev pub default_settings : Settings
-default_settings = record { hard_tab_indent = false; undo_coalescing = false; undo_grouping = false; read_only = false; single_line = false; max_chars = None }
+default_settings = record { hard_tab_indent = false; undo_coalescing = false; undo_grouping = false; read_only = false; single_line = false; max_chars = None; cursor_unit = Character }
 
 -- the initial layout: one visual row per line, tab stops at each fourth column, no line numbers, no
 -- area drawn yet

@@ -17,6 +17,7 @@ use Rattle.tui_textarea.specs.Fitting.{fitting_beside, is_allowed}
 use Rattle.tui_textarea.specs.Guards.{admitted, admitted_over_selection, is_editable, unless_read_only}
 use Rattle.tui_textarea.specs.Selection.{selection_copied}
 
+-- the state after both, before the paste moves the cursor out of a cluster
 abbrev pub copied_and_pasted : State → State
 copied_and_pasted state =
     let copied = selection_copied state in

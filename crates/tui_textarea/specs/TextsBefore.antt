@@ -5,6 +5,8 @@ use Rattle.textarea_history.specs.HistoryLaw.{times}
 use Rattle.textarea_history.specs.Log.{done_groups, newest}
 use Rattle.textarea_document.specs.DocumentState.{DocumentState}
 use Rattle.textarea_document.specs.Outcomes.{after_undo}
+use Rattle.textarea_data.specs.declared.range.AtomicCursorBias.TheVariants.{Forward}
+use Rattle.tui_textarea.specs.Units.{settled}
 use Rattle.tui_textarea.specs.Guards.{is_editable, unless_read_only}
 use Rattle.tui_textarea.specs.State.{State, with_document}
 
@@ -15,7 +17,7 @@ ReachesBack document written =
 
 -- the state after an undo: the same, if the text area is read only
 abbrev pub state_undone : State → State
-state_undone state = unless_read_only state (with_document state (after_undo state.document))
+state_undone state = unless_read_only state (settled Forward (with_document state (after_undo state.document)))
 
 -- whether an undo finds something to undo
 abbrev pub undoes : State → Bool

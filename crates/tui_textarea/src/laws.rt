@@ -1,7 +1,8 @@
 //! Laws of text areas and their visual rows, each the contract of a function that does nothing.
 ghost use Rattle.std.specs.Prelude.{if◌then◌else◌, ◌≡◌, ◌-◌, ◌<◌, ◌^◌, ◌↔◌, ℕ, Bool, List, [], true, false, length, take, None, Option};
 ghost use Rattle.tui_textarea.specs.Prelude.{IsHitTest, IsLastArea, IsWithoutCell, Place, size_limit, CursorMove, Scrolling, text_and_layout, IsSound, IsCaretHit, frame_of, shows_placeholder, IsCaretVisible, Action, BorrowedRows, IsViewOf, row_total, Rect, saturated_u16, width_inside, TextAreaMeasure, weight, IsRendered, widget_of, HasLayoutFor, IsMeasured, IsMeasuredAround, IsAfterAction, IsMovedWith, IsScrolledWith, State};
-ghost use Rattle.tui_textarea.specs.Prelude.{IsInsertOutOfMemory, IsTypedLine, bars_character, breaks_line, char_inserted, fragment_text, symbol_before_removed, text_cleared, unless_read_only, unselected_or, with_character};
+ghost use Rattle.tui_textarea.specs.Prelude.{IsInsertOutOfMemory, IsTypedLine, bars_character, breaks_line, char_inserted, fragment_text, settled, symbol_before_removed, text_cleared, unless_read_only, unselected_or, with_character};
+ghost use Rattle.textarea_data.specs.declared.range.AtomicCursorBias.TheVariants.{Forward};
 
 use crate::drawing::laws::{caret_hit_is_cursor, caret_is_visible, one_nearest_place};
 pub use crate::textarea::laws::{
@@ -31,21 +32,23 @@ pub fn one_input()
 }
 
 /// A text of one line that is typed from its start, and can be edited, stays one, with the cursor
-/// after it: a character is added at its end, or left out if it would be one more than the greatest
-/// number of characters, a removal of the symbol before the cursor removes the last one, and `clear`
-/// removes all. An insertion that runs out of memory leaves it as it was. Its text is written as its
-/// characters.
+/// after it, which goes by characters: a character is added at its end, or left out if it would be
+/// one more than the greatest number of characters, a removal of the symbol before the cursor removes
+/// the last one, and `clear` removes all. An insertion that runs out of memory leaves it as it was.
+/// Its text is written as its characters.
 pub fn typed_line_stays()
     ensures typed { (old new : State) (maximum : Option ℕ) (line : List ℕ) (c : ℕ) →
         IsTypedLine old maximum line → breaks_line c ≡ false →
-        new ≡ (if bars_character old c then old else char_inserted old c) →
+        new ≡ (if bars_character old c then old else settled Forward (char_inserted old c)) →
         IsTypedLine new maximum (with_character maximum line c) }
     ensures removed { (old new : State) (maximum : Option ℕ) (line : List ℕ) →
         IsTypedLine old maximum line →
-        new ≡ unless_read_only old (unselected_or old (symbol_before_removed old)) →
+        new ≡ unless_read_only old
+        (settled Forward (unselected_or old (symbol_before_removed old))) →
         IsTypedLine new maximum (take (length line - 1) line) }
     ensures cleared { (old new : State) (maximum : Option ℕ) (line : List ℕ) →
-        IsTypedLine old maximum line → new ≡ unless_read_only old (text_cleared old) →
+        IsTypedLine old maximum line →
+        new ≡ unless_read_only old (settled Forward (text_cleared old)) →
         IsTypedLine new maximum [] }
     ensures out_of_memory { (old new : State) (maximum : Option ℕ) (line : List ℕ) →
         IsTypedLine old maximum line → IsInsertOutOfMemory old new →

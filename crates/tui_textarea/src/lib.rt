@@ -11,7 +11,7 @@ pub mod util;
 
 pub use textarea::TextArea;
 pub use textarea_change::{ChangeUnit, TextChange};
-pub use textarea_data::cursor::{CursorMove, CursorRenderMode, DataCursor};
+pub use textarea_data::cursor::{CursorMove, CursorRenderMode, CursorUnit, DataCursor};
 pub use textarea_data::input::{Input, Key};
 pub use textarea_data::measure::TextAreaMeasure;
 pub use textarea_data::range::{

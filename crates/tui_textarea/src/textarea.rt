@@ -23,6 +23,7 @@ mod selection;
 pub mod settings;
 mod styles;
 mod surround;
+mod units;
 
 ghost use Rattle.std.specs.Prelude.{◌≡◌, ◌<◌, ◌≤◌, ◌↔◌, length, OnErr, OnOk, IfOk, IsOk, true, IsTrue, [], string_bytes, vec_len};
 ghost use Rattle.std.specs.Arc.{arc_value};
@@ -35,6 +36,7 @@ use std::alloc::{AllocError, Global};
 use std::marker::Model;
 use std::sync::Arc;
 use std::time::Duration;
+use textarea_data::range::AtomicCursorBias;
 use textarea_document::Document;
 use textarea_lines::settings::LayoutSettings;
 use textarea_search::search::Search;
@@ -186,6 +188,7 @@ impl<'a> TextArea<'a> {
         }
         self.document.set_lines(lines, cursor)?;
         self.drawing.forget_lines();
+        self.settle(AtomicCursorBias::Forward);
         Ok(())
     }
 

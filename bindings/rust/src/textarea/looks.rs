@@ -1,7 +1,7 @@
 //! The mask, the cursor's cell, and custom highlights.
 
 use super::TextArea;
-use crate::data::{CursorRenderMode, OutOfMemory};
+use crate::data::{CursorRenderMode, CursorUnit, OutOfMemory};
 use crate::handle::must;
 use crate::ratatui::style::Style;
 use crate::sys;
@@ -68,6 +68,43 @@ impl TextArea<'_> {
             .core
             .is(|h| unsafe { sys::ta_max_chars(h, &mut maximum) });
         is_set.then_some(maximum)
+    }
+
+    /// Sets what the cursor goes over as a whole, beside atomic ranges: a character, as at first, or
+    /// an extended grapheme cluster, such as a letter with its accents. With clusters no call leaves
+    /// the cursor or the selection's beginning inside one, this call included. What is removed is
+    /// whole clusters of the text before it, but for `delete_str`; what stays may form others, as
+    /// flags do. A match at an end of which no cluster begins or ends isn't found, counted or
+    /// replaced.
+    ///
+    /// ```
+    /// use tui_textarea::{CursorMove, CursorUnit, TextArea};
+    ///
+    /// let mut area = TextArea::from(["e\u{301}x"]); // an e with an accent, which is a character too
+    /// area.set_cursor_unit(CursorUnit::Cluster);
+    /// area.move_cursor(CursorMove::Forward);
+    /// assert_eq!(area.cursor(), (0, 2));
+    /// area.delete_char();
+    /// assert_eq!(area.lines(), ["x"]);
+    /// ```
+    pub fn set_cursor_unit(&mut self, unit: CursorUnit) {
+        let number = match unit {
+            CursorUnit::Character => sys::CURSOR_UNIT_CHARACTER,
+            CursorUnit::Cluster => sys::CURSOR_UNIT_CLUSTER,
+        };
+        self.core
+            .is(|h| unsafe { sys::ta_set_cursor_unit(h, number) });
+    }
+
+    /// Returns what the cursor goes over as a whole.
+    pub fn cursor_unit(&self) -> CursorUnit {
+        let mut number = 0;
+        self.core
+            .is(|h| unsafe { sys::ta_cursor_unit(h, &mut number) });
+        match number {
+            sys::CURSOR_UNIT_CLUSTER => CursorUnit::Cluster,
+            _ => CursorUnit::Character,
+        }
     }
 
     /// Sets whether the cell at the cursor has its own style, or is drawn as any other because the

@@ -6,6 +6,8 @@ ghost use Rattle.textarea_document.specs.Edits.{has_symbols};
 ghost use Rattle.textarea_text.specs.Fragment.{fragment_symbols, pasted_symbols};
 ghost use Rattle.tui_textarea.specs.Edits.{inserts_tab, inserts_text, newline_inserted, str_inserted, tab_inserted};
 ghost use Rattle.tui_textarea.specs.Guards.{admitted_over_selection, bars_break, bars_tab, is_editable, unless_read_only};
+ghost use Rattle.textarea_data.specs.declared.range.AtomicCursorBias.TheVariants.{Forward};
+ghost use Rattle.tui_textarea.specs.Units.{settled};
 ghost use Rattle.textarea_c.specs.Calls.{Calls, Given, Inserts, InsertsCharacter, TriesToInsert};
 ghost use Rattle.textarea_c_data.specs.Inputs.{character_of_number};
 ghost use Rattle.textarea_c_data.specs.Texts.{text_in};
@@ -46,7 +48,8 @@ fn insert_character(editor: &mut Editor, c: char) -> u32
 #[unsafe(no_mangle)]
 pub extern "C" fn ta_insert_newline(handle: &mut Handle, alloc: Global) -> u32
     ensures { Calls handle.old.stored.content result handle.new.stored.content
-        (λ a b. Inserts (if bars_break a.area then a.area else newline_inserted a.area) result a b) }
+        (λ a b. Inserts (if bars_break a.area then a.area
+        else settled Forward (newline_inserted a.area)) result a b) }
 {
     on!(handle, alloc, editor => done(editor.area.insert_newline()))
 }
@@ -63,8 +66,8 @@ pub extern "C" fn ta_insert_str(handle: &mut Handle, alloc: Global, text: &[u8])
         (is_editable a.area && inserts_text a.area
         (admitted_over_selection a.area (fragment_symbols (chars t))))
         (is_editable a.area && inserts_text a.area (fragment_symbols (chars t)))
-        (unless_read_only a.area (str_inserted a.area
-        (admitted_over_selection a.area (fragment_symbols (chars t)))))) result a b) }
+        (unless_read_only a.area (settled Forward (str_inserted a.area
+        (admitted_over_selection a.area (fragment_symbols (chars t))))))) result a b) }
 {
     on!(handle, alloc, editor => match text_of(text) {
         Some(text) => flag(editor.area.insert_str(text)),
@@ -84,8 +87,8 @@ pub extern "C" fn ta_insert_pasted(handle: &mut Handle, alloc: Global, text: &[u
         (is_editable a.area && inserts_text a.area
         (admitted_over_selection a.area (pasted_symbols (chars t))))
         (is_editable a.area && inserts_text a.area (pasted_symbols (chars t)))
-        (unless_read_only a.area (str_inserted a.area
-        (admitted_over_selection a.area (pasted_symbols (chars t)))))) result a b) }
+        (unless_read_only a.area (settled Forward (str_inserted a.area
+        (admitted_over_selection a.area (pasted_symbols (chars t))))))) result a b) }
 {
     on!(handle, alloc, editor => match text_of(text) {
         Some(text) => flag(editor.area.insert_pasted(text)),
@@ -104,7 +107,7 @@ pub extern "C" fn ta_insert_tab(handle: &mut Handle, alloc: Global) -> u32
     ensures { Calls handle.old.stored.content result handle.new.stored.content
         (λ a b. TriesToInsert (not (bars_tab a.area) && inserts_tab a.area)
         (not (bars_tab a.area) && inserts_tab a.area)
-        (if bars_tab a.area then a.area else tab_inserted a.area) result a b) }
+        (if bars_tab a.area then a.area else settled Forward (tab_inserted a.area)) result a b) }
 {
     on!(handle, alloc, editor => flag(editor.area.insert_tab()))
 }
@@ -119,8 +122,8 @@ pub extern "C" fn ta_paste(handle: &mut Handle, alloc: Global) -> u32
         (λ a b. TriesToInsert
         (is_editable a.area && has_symbols (admitted_over_selection a.area a.area.yank))
         (is_editable a.area && inserts_text a.area a.area.yank)
-        (unless_read_only a.area (str_inserted a.area
-        (admitted_over_selection a.area a.area.yank))) result a b) }
+        (unless_read_only a.area (settled Forward (str_inserted a.area
+        (admitted_over_selection a.area a.area.yank)))) result a b) }
 {
     on!(handle, alloc, editor => flag(editor.area.paste()))
 }

@@ -4,6 +4,8 @@ ghost use Rattle.textarea_data.specs.declared.cursor.CursorMove.TheVariants as m
 ghost use Rattle.textarea_data.specs.declared.scroll.Scrolling.TheVariants as scrolling;
 ghost use Rattle.textarea_text.specs.Place.{IsPlace};
 ghost use Rattle.tui_textarea.specs.Moves.{IsMoved, IsScrolled, gone_to};
+ghost use Rattle.textarea_data.specs.declared.range.AtomicCursorBias.TheVariants.{Forward};
+ghost use Rattle.tui_textarea.specs.Units.{settled};
 ghost use Rattle.textarea_c.specs.Calls.{Calls, Goes, GoesBy, OnlyReads, Sets};
 ghost use Rattle.textarea_c_data.specs.Numbers.{move_of, page_of};
 
@@ -59,14 +61,15 @@ pub extern "C" fn ta_jump(handle: &mut Handle, alloc: Global, row: u16, column: 
 #[unsafe(no_mangle)]
 pub extern "C" fn ta_go_to(handle: &mut Handle, alloc: Global, row: usize, column: usize) -> u32
     ensures { Calls handle.old.stored.content result handle.new.stored.content
-        (λ a b. Sets (gone_to a.area (row, column)) result a b) }
+        (λ a b. Sets (settled Forward (gone_to a.area (row, column))) result a b) }
 {
     on!(handle, alloc, editor => go_to_position(&mut editor, (row, column)))
 }
 
 // Moves the cursor to the position that is nearest to `place`, and returns the status.
 fn go_to_position(editor: &mut Editor, place: (usize, usize)) -> u32
-    ensures { Sets (gone_to editor.old.area place) result editor.old editor.new }
+    ensures { Sets (settled Forward (gone_to editor.old.area place)) result
+        editor.old editor.new }
 {
     editor.area.go_to(place);
     OK

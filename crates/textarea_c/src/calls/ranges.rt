@@ -6,6 +6,8 @@ ghost use Rattle.textarea_ranges.specs.Order.{AreInOrder};
 ghost use Rattle.textarea_ranges.specs.Valid.{AreValid};
 ghost use Rattle.textarea_text.specs.Text.{lines};
 ghost use Rattle.tui_textarea.specs.Guards.{removable_range, unless_read_only};
+ghost use Rattle.textarea_data.specs.declared.range.AtomicCursorBias.TheVariants.{Forward};
+ghost use Rattle.tui_textarea.specs.Units.{settled};
 ghost use Rattle.tui_textarea.specs.Ranges.{cursor_normalized, atomic_range_removed};
 ghost use Rattle.textarea_c.specs.Calls.{Calls, OnlyReads, SetsValidRanges, Tries, TriesBy};
 ghost use Rattle.textarea_c_data.specs.Copied.{copied_over};
@@ -134,7 +136,7 @@ pub extern "C" fn ta_normalize_cursor_around_atomic_ranges(
     ensures area { Calls handle.old.stored.content result handle.new.stored.content
         (λ a b. TriesBy (bias_of_number bias)
         (λ end. is_some (range_around a.area.document.ranges a.area.document.cursor))
-        (λ end. cursor_normalized a.area end) result a b) }
+        (λ end. settled end (cursor_normalized a.area end)) result a b) }
 {
     on!(handle, alloc, editor => match read_bias(bias) {
         Some(bias) => truth(editor.area.normalize_cursor_around_atomic_ranges(bias)),
@@ -190,7 +192,8 @@ pub extern "C" fn ta_delete_atomic_range_at_cursor(
     ensures area { Calls handle.old.stored.content result handle.new.stored.content
         (λ a b. TriesBy (direction_of direction)
         (λ side. is_some (removable_range a.area side))
-        (λ side. unless_read_only a.area (atomic_range_removed a.area side)) result a b) }
+        (λ side. unless_read_only a.area (settled Forward (atomic_range_removed a.area side)))
+        result a b) }
     ensures range { IfSome handle.old.stored.content (λ a. MatchOption (direction_of direction)
         (result ≡ 6) (λ side. result ≢ 2
         → IsRangeOut (removable_range a.area side) result range.new)) }
@@ -203,8 +206,8 @@ pub extern "C" fn ta_delete_atomic_range_at_cursor(
 fn remove_numbered(editor: &mut Editor, direction: u32, range: &mut CRange) -> u32
     ensures area { TriesBy (direction_of direction)
         (λ side. is_some (removable_range editor.old.area side))
-        (λ side. unless_read_only editor.old.area (atomic_range_removed editor.old.area side))
-        result editor.old editor.new }
+        (λ side. unless_read_only editor.old.area
+        (settled Forward (atomic_range_removed editor.old.area side))) result editor.old editor.new }
     ensures range { MatchOption (direction_of direction) (result ≡ 6) (λ side. result ≢ 2
         → IsRangeOut (removable_range editor.old.area side) result range.new) }
     ensures unwritten { result ≢ 0 → range.new ≡ range.old }
@@ -218,7 +221,8 @@ fn remove_numbered(editor: &mut Editor, direction: u32, range: &mut CRange) -> u
 // Removes the atomic range at the cursor, if there is one, writes it, and returns the status.
 fn remove_range(editor: &mut Editor, direction: AtomicDeleteDirection, range: &mut CRange) -> u32
     ensures area { Tries (is_some (removable_range editor.old.area direction))
-        (unless_read_only editor.old.area (atomic_range_removed editor.old.area direction))
+        (unless_read_only editor.old.area
+        (settled Forward (atomic_range_removed editor.old.area direction)))
         result editor.old editor.new }
     ensures range { result ≢ 2
         → IsRangeOut (removable_range editor.old.area direction) result range.new }

@@ -1,11 +1,13 @@
 //! Replacements of text, and of what lines begin with, each one group of edits.
-ghost use Rattle.std.specs.Prelude.{◌≡◌, ◌≢◌, ◌&&◌, IfSome, None, false, if◌then◌else◌, is_some, length, not, true};
+ghost use Rattle.std.specs.Prelude.{◌≡◌, ◌≢◌, ◌&&◌, IfSome, None, Some, if◌then◌else◌, is_some, length, not};
 ghost use Rattle.std.specs.Str.{chars};
 ghost use Rattle.textarea_document.specs.Indenting.{lines_indented, lines_outdented, shifts_lines};
-ghost use Rattle.textarea_document.specs.Replacing.{replaces, stretch_symbols};
+ghost use Rattle.textarea_document.specs.Replacing.{stretch_symbols};
 ghost use Rattle.textarea_text.specs.Fragment.{fragment_symbols, fragment_text};
-ghost use Rattle.tui_textarea.specs.Prelude.{admitted, admitted_between, admitted_for, bars_indent, is_editable, unless_read_only, with_document};
-ghost use Rattle.tui_textarea.specs.Replacing.{match_at_cursor, match_replaced, matches_replaced, replaceable, with_range_replaced};
+ghost use Rattle.tui_textarea.specs.Prelude.{admitted, admitted_for, bars_indent, is_editable, replaces_whole, unless_read_only, whole_range_replaced, with_document};
+ghost use Rattle.tui_textarea.specs.Replacing.{match_at_cursor, match_replaced, matches_replaced, replaceable};
+ghost use Rattle.textarea_data.specs.declared.range.AtomicCursorBias.TheVariants.{Forward};
+ghost use Rattle.tui_textarea.specs.Units.{settled};
 ghost use Rattle.textarea_c.specs.Calls.{Calls, ChangesArea, Copies, Given, Replaces, bars_replacement};
 ghost use Rattle.textarea_c_data.specs.Lines.{AreCharactersOut};
 ghost use Rattle.textarea_c_data.specs.Texts.{text_in};
@@ -65,12 +67,10 @@ pub extern "C" fn ta_replace_range(
 ) -> u32
     ensures { Calls handle.old.stored.content result handle.new.stored.content
         (λ a b. Given (text_in text.now) (λ t. Replaces
-        (is_editable a.area && replaces a.area.document.text (from_row, from_column)
-        (to_row, to_column) (admitted_between a.area (from_row, from_column)
-        (to_row, to_column) (fragment_symbols (chars t))))
-        (unless_read_only a.area (with_range_replaced a.area (from_row, from_column)
-        (to_row, to_column) (admitted_between a.area (from_row, from_column)
-        (to_row, to_column) (fragment_symbols (chars t)))))) result a b) }
+        (is_editable a.area && replaces_whole a.area (from_row, from_column)
+        (to_row, to_column) (fragment_symbols (chars t)))
+        (unless_read_only a.area (settled Forward (whole_range_replaced a.area
+        (from_row, from_column) (to_row, to_column) (fragment_symbols (chars t)))))) result a b) }
 {
     on!(handle, alloc, editor => match text_of(text) {
         Some(text) => flag(editor.area.replace_range(
@@ -93,8 +93,8 @@ pub extern "C" fn ta_replace_match(handle: &mut Handle, alloc: Global, text: &[u
     ensures replaced { Calls handle.old.stored.content result handle.new.stored.content
         (λ a b. Given (text_in text.now) (λ t. Replaces
         (is_editable a.area && is_some (match_at_cursor a.area))
-        (unless_read_only a.area (match_replaced a.area
-        (admitted_for (match_at_cursor a.area) a.area (fragment_symbols (chars t)))))) result a b) }
+        (unless_read_only a.area (settled Forward (match_replaced a.area
+        (admitted_for (match_at_cursor a.area) a.area (fragment_symbols (chars t))))))) result a b) }
     ensures no_pattern { IfSome handle.old.stored.content
         (λ a. a.area.pattern ≡ None → result ≢ 2) }
 {
@@ -121,8 +121,8 @@ pub extern "C" fn ta_replace_all(
 ) -> u32
     ensures replaced { Calls handle.old.stored.content result handle.new.stored.content
         (λ a b. Given (text_in text.now) (λ t. ChangesArea
-        (if bars_replacement a.area t then a.area else matches_replaced a.area
-        (admitted a.area (fragment_symbols (chars t))))) result a b) }
+        (if bars_replacement a.area t then a.area else settled Forward (matches_replaced a.area
+        (admitted a.area (fragment_symbols (chars t)))))) result a b) }
     ensures value { result ≡ 0 → IfSome handle.old.stored.content
         (λ a. IfSome (text_in text.now) (λ t. count.new
         ≡ (if bars_replacement a.area t then 0 else length (replaceable a.area)))) }
@@ -145,9 +145,9 @@ pub extern "C" fn ta_replace_all(
 #[unsafe(no_mangle)]
 pub extern "C" fn ta_indent_lines(handle: &mut Handle, alloc: Global) -> u32
     ensures { Calls handle.old.stored.content result handle.new.stored.content
-        (λ a b. Replaces (not (bars_indent a.area) && shifts_lines a.area.document false)
-        (if bars_indent a.area then a.area else with_document a.area
-        (lines_indented a.area.document a.area.settings.hard_tab_indent a.area.time)) result a b) }
+        (λ a b. Replaces (not (bars_indent a.area) && shifts_lines a.area.document None)
+        (if bars_indent a.area then a.area else settled Forward (with_document a.area (lines_indented
+        a.area.document a.area.settings.hard_tab_indent a.area.time))) result a b) }
 {
     on!(handle, alloc, editor => flag(editor.area.indent_lines()))
 }
@@ -161,9 +161,10 @@ pub extern "C" fn ta_indent_lines(handle: &mut Handle, alloc: Global) -> u32
 #[unsafe(no_mangle)]
 pub extern "C" fn ta_outdent_lines(handle: &mut Handle, alloc: Global) -> u32
     ensures { Calls handle.old.stored.content result handle.new.stored.content
-        (λ a b. Replaces (is_editable a.area && shifts_lines a.area.document true)
-        (unless_read_only a.area (with_document a.area
-        (lines_outdented a.area.document a.area.time))) result a b) }
+        (λ a b. Replaces (is_editable a.area && shifts_lines a.area.document
+        (Some a.area.settings.cursor_unit))
+        (unless_read_only a.area (settled Forward (with_document a.area
+        (lines_outdented a.area.document a.area.settings.cursor_unit a.area.time)))) result a b) }
 {
     on!(handle, alloc, editor => flag(editor.area.outdent_lines()))
 }
@@ -171,8 +172,8 @@ pub extern "C" fn ta_outdent_lines(handle: &mut Handle, alloc: Global) -> u32
 // Replaces each match, writes their number, and returns the status.
 fn replace_matches(editor: &mut Editor, text: &str, count: &mut usize) -> u32
     ensures replaced { ChangesArea (if bars_replacement editor.old.area text.now
-        then editor.old.area else matches_replaced editor.old.area
-        (admitted editor.old.area (fragment_symbols (chars text.now))))
+        then editor.old.area else settled Forward (matches_replaced editor.old.area
+        (admitted editor.old.area (fragment_symbols (chars text.now)))))
         result editor.old editor.new }
     ensures value { result ≡ 0 → count.new ≡ (if bars_replacement editor.old.area text.now
         then 0 else length (replaceable editor.old.area)) }

@@ -1,6 +1,8 @@
 //! The search pattern, and the searches for it.
 ghost use Rattle.std.specs.Prelude.{◌≡◌, ◌≢◌, ◌<◌, IfSome, MatchOption, None, Some, is_some, string_bytes};
 ghost use Rattle.textarea_text.specs.Place.{IsPlace};
+ghost use Rattle.textarea_data.specs.declared.range.AtomicCursorBias.TheVariants.{Backward, Forward};
+ghost use Rattle.tui_textarea.specs.Units.{settled};
 ghost use Rattle.tui_textarea.specs.Search.{match_count, match_index, next_match, previous_match, after_search};
 ghost use Rattle.textarea_c.specs.Calls.{Asks, Calls, Copies, FindsText, Given, Patterns, OnlyReads, Searches};
 ghost use Rattle.textarea_c.specs.Rejections.{IsRejection};
@@ -220,7 +222,7 @@ pub extern "C" fn ta_search_pattern(
 pub extern "C" fn ta_search_forward(handle: &mut Handle, alloc: Global, match_cursor: bool) -> u32
     ensures found { Calls handle.old.stored.content result handle.new.stored.content
         (λ a b. Searches (is_some (next_match a.area match_cursor))
-        (after_search a.area (next_match a.area match_cursor)) result a b) }
+        (settled Forward (after_search a.area (next_match a.area match_cursor))) result a b) }
     ensures place { result ≡ 0 → IfSome handle.old.stored.content
         (λ a. IfSome (next_match a.area match_cursor) (IsPlace a.area.document.text)) }
 {
@@ -236,7 +238,7 @@ pub extern "C" fn ta_search_forward(handle: &mut Handle, alloc: Global, match_cu
 pub extern "C" fn ta_search_back(handle: &mut Handle, alloc: Global, match_cursor: bool) -> u32
     ensures found { Calls handle.old.stored.content result handle.new.stored.content
         (λ a b. Searches (is_some (previous_match a.area match_cursor))
-        (after_search a.area (previous_match a.area match_cursor)) result a b) }
+        (settled Backward (after_search a.area (previous_match a.area match_cursor))) result a b) }
     ensures place { result ≡ 0 → IfSome handle.old.stored.content
         (λ a. IfSome (previous_match a.area match_cursor) (IsPlace a.area.document.text)) }
 {

@@ -1,13 +1,15 @@
 //! Lines that are indented and outdented: the text at their starts is replaced, in one group.
-ghost use Rattle.std.specs.Prelude.{◌≡◌, ◌≤◌, ◌+◌, [], ◌++◌, false, true, length, take, option_map, IfOk, IfSome, OnErr, OnOk};
+ghost use Rattle.std.specs.Prelude.{◌≡◌, ◌≤◌, ◌+◌, [], ◌++◌, None, Some, length, take, option_map, IfOk, IfSome, OnErr, OnOk};
 ghost use Rattle.std.specs.Arc.{arc_value};
 ghost use Rattle.textarea_document.specs.Prelude.{as_nanos, chars, characters, lines, text_of, AreApart, IsPlace};
-ghost use Rattle.textarea_document.specs.Indenting.{begins_with_tab, free_spaces, indent_columns, is_free, is_free_space, line_stretches, lines_indented, lines_outdented, lines_shifted, moved_near, outdent_columns, replaced_columns, shifted_column, shifted_place, shifts_lines, stretch_from, tab_characters, tab_of, unless_zero, with_starts};
+ghost use Rattle.textarea_document.specs.Indenting.{begins_with_tab, free_spaces, indent_columns, is_free, is_free_space, line_stretches, lines_indented, lines_outdented, lines_shifted, moved_near, outdent_columns, replaced_columns, shift_columns, shifted_column, shifted_place, shifts_lines, stretch_from, tab_characters, tab_of, unless_zero, whole_columns, with_starts};
 
 use crate::document::Document;
 use std::alloc::{AllocError, Global};
 use std::sync::Arc;
 use std::time::Duration;
+use textarea_clusters::stops::column_back;
+use textarea_data::cursor::CursorUnit;
 use textarea_data::range::{AtomicDeleteDirection, AtomicRange};
 use textarea_ranges::lookup::range_at_place;
 use textarea_text::places::{clip, line_of};
@@ -22,33 +24,39 @@ impl Document {
     /// was open. Cursor and anchor stay before the same characters; at column 0 the start of a
     /// selection stays there.
     pub fn indent_lines(&mut self, hard: bool, now: Duration) -> Result<bool, AllocError>
-        ensures indented { IfOk result (λ indented. indented ≡ shifts_lines self.old false) }
+        ensures indented { IfOk result (λ indented. indented ≡ shifts_lines self.old None) }
         ensures ok { OnOk result (self.new ≡ lines_indented self.old hard (as_nanos now)) }
         ensures err { OnErr result (self.new ≡ self.old) }
         ensures lines { OnOk result (lines self.new.text
-            ≡ with_starts self.old false (tab_of self.old hard) 0 (lines self.old.text)) }
+            ≡ with_starts self.old None (tab_of self.old hard) 0 (lines self.old.text)) }
     {
         let tab = tab_characters(hard, self.layout_settings().tab_len);
-        self.shift_lines(false, tab, now)
+        self.shift_lines(None, tab, now)
     }
 
     /// Removes a tab from the start of each line of the selection, or of the cursor's line without
     /// one, or the spaces in its place, at most as many as the tab length, and returns whether
-    /// there were any. No character of an atomic range is removed. All else is as for
-    /// `indent_lines`.
-    pub fn outdent_lines(&mut self, now: Duration) -> Result<bool, AllocError>
-        ensures outdented { IfOk result (λ outdented. outdented ≡ shifts_lines self.old true) }
-        ensures ok { OnOk result (self.new ≡ lines_outdented self.old (as_nanos now)) }
+    /// there were any. No character of an atomic range is removed and, by clusters, no part of one.
+    /// All else is as for `indent_lines`.
+    pub fn outdent_lines(&mut self, unit: CursorUnit, now: Duration) -> Result<bool, AllocError>
+        ensures outdented { IfOk result
+            (λ outdented. outdented ≡ shifts_lines self.old (Some unit)) }
+        ensures ok { OnOk result (self.new ≡ lines_outdented self.old unit (as_nanos now)) }
         ensures err { OnErr result (self.new ≡ self.old) }
         ensures lines { OnOk result
-            (lines self.new.text ≡ with_starts self.old true [] 0 (lines self.old.text)) }
+            (lines self.new.text ≡ with_starts self.old (Some unit) [] 0 (lines self.old.text)) }
     {
-        self.shift_lines(true, "", now)
+        self.shift_lines(Some(unit), "", now)
     }
 
     // Replaces the start of each line that is indented or outdented by the tab, and returns whether
     // there was such a line.
-    fn shift_lines(&mut self, outdents: bool, tab: &str, now: Duration) -> Result<bool, AllocError>
+    fn shift_lines(
+        &mut self,
+        outdents: Option<CursorUnit>,
+        tab: &str,
+        now: Duration,
+    ) -> Result<bool, AllocError>
         requires short { length (chars tab.now) ≤ 255 }
         ensures shifted { IfOk result (λ shifted. shifted ≡ shifts_lines self.old outdents) }
         ensures ok { OnOk result
@@ -71,9 +79,12 @@ impl Document {
         Ok(true)
     }
 
-    /// Returns what indenting, or outdenting if `outdents`, replaces in each line, by the numbers of
-    /// symbols before its start and before its end.
-    pub fn line_stretches(&self, outdents: bool) -> Result<Vec<(usize, usize)>, AllocError>
+    /// Returns what indenting, or outdenting if `outdents` is a unit, replaces in each line, by the
+    /// numbers of symbols before its start and before its end.
+    pub fn line_stretches(
+        &self,
+        outdents: Option<CursorUnit>,
+    ) -> Result<Vec<(usize, usize)>, AllocError>
         ensures { IfOk result (λ stretches. stretches.items ≡ line_stretches self.now outdents) }
     {
         let lines = self.lines();
@@ -89,7 +100,12 @@ impl Document {
     }
 
     // Returns how many characters at the start of the row's line are replaced; `None` if it is left.
-    fn replaced_columns(&self, outdents: bool, row: usize, line: &str) -> Option<usize>
+    fn replaced_columns(
+        &self,
+        outdents: Option<CursorUnit>,
+        row: usize,
+        line: &str,
+    ) -> Option<usize>
         ensures value { result ≡ replaced_columns self.now outdents row (chars line.now) }
         ensures within { IfSome result (λ count. count ≤ 255) }
     {
@@ -98,14 +114,16 @@ impl Document {
             return None;
         }
         let tab_length = self.layout_settings().tab_len;
-        if outdents {
-            return unless_zero(outdent_columns(self.ranges(), tab_length, row, line));
-        }
-        indent_columns(tab_length, line)
+        shift_columns(outdents, self.ranges(), tab_length, row, line)
     }
 
     // Returns where a position is after the starts of lines are replaced.
-    fn shifted_place(&self, outdents: bool, columns: usize, place: (usize, usize)) -> (usize, usize)
+    fn shifted_place(
+        &self,
+        outdents: Option<CursorUnit>,
+        columns: usize,
+        place: (usize, usize),
+    ) -> (usize, usize)
         requires place { IsPlace self.now.text place }
         requires short { columns ≤ 255 }
         ensures { result ≡ shifted_place self.now outdents columns place }
@@ -121,7 +139,7 @@ impl Document {
     }
 
     // The same for where the selection began.
-    fn shifted_anchor(&self, outdents: bool, columns: usize) -> Option<(usize, usize)>
+    fn shifted_anchor(&self, outdents: Option<CursorUnit>, columns: usize) -> Option<(usize, usize)>
         requires { columns ≤ 255 }
         ensures { result ≡ option_map (shifted_place self.now outdents columns) self.now.anchor }
     {
@@ -179,11 +197,51 @@ fn indent_columns(tab_length: u8, line: &str) -> Option<usize>
     }
 }
 
+// Returns how many characters are replaced in a line that is outdented, by this unit, or indented.
+fn shift_columns(
+    outdents: Option<CursorUnit>,
+    ranges: &[AtomicRange],
+    tab_length: u8,
+    row: usize,
+    line: &str,
+) -> Option<usize>
+    requires { AreApart ranges.now }
+    ensures value { result ≡ shift_columns outdents ranges.now tab_length row (chars line.now) }
+    ensures within { IfSome result (λ count. count ≤ 255) }
+{
+    match outdents {
+        Some(unit) => {
+            let count = outdent_columns(ranges, tab_length, row, line);
+            unless_zero(whole_columns(unit, ranges, row, line, count))
+        }
+        None => indent_columns(tab_length, line),
+    }
+}
+
+// Returns so many columns or, by clusters, the most of them after which the cursor can be.
+fn whole_columns(
+    unit: CursorUnit,
+    ranges: &[AtomicRange],
+    row: usize,
+    line: &str,
+    count: usize,
+) -> usize
+    requires apart { AreApart ranges.now }
+    requires within { count ≤ length (chars line.now) }
+    ensures value { result ≡ whole_columns unit ranges.now row (chars line.now) count }
+    ensures within { result ≤ count }
+{
+    match unit {
+        CursorUnit::Character => count,
+        CursorUnit::Cluster => column_back(line, ranges, (row, count)),
+    }
+}
+
 // Returns how many characters outdenting removes from the start of the row's line.
 fn outdent_columns(ranges: &[AtomicRange], tab_length: u8, row: usize, line: &str) -> usize
     requires { AreApart ranges.now }
     ensures value { result ≡ outdent_columns ranges.now tab_length row (chars line.now) }
-    ensures within { result ≤ 255 }
+    ensures short { result ≤ 255 }
 {
     if begins_with_tab(line) && is_free(ranges, (row, 0)) {
         return 1;

@@ -117,8 +117,8 @@ impl Document {
         Ok(Some(range))
     }
 
-    // Sets the selection's beginning to the nearest position of the text.
-    pub(super) fn set_clipped_anchor(&mut self, anchor: Option<(usize, usize)>)
+    /// Sets the selection's beginning to the nearest position of the text.
+    pub fn set_clipped_anchor(&mut self, anchor: Option<(usize, usize)>)
         ensures { self.new ≡ anchored self.old anchor }
     {
         self.anchor = anchor.map(|place| clip(self.lines(), place));

@@ -21,6 +21,7 @@ pub(super) fn reading<'a>(name: &str) -> Option<Call<'a>>
         "read_only" => Some(Call::ReadOnly),
         "single_line" => Some(Call::SingleLine),
         "max_chars" => Some(Call::MaxChars),
+        "cursor_unit" => Some(Call::CursorUnit),
         "tab_length" => Some(Call::TabLength),
         "hard_tab_indent" => Some(Call::HardTabIndent),
         "wrap_mode" => Some(Call::WrapMode),

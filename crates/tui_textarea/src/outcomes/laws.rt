@@ -1,6 +1,11 @@
 //! Laws of runs of calls, each the contract of a function that does nothing.
-ghost use Rattle.std.specs.Prelude.{◌≡◌, ◌≤◌, ℕ, false, [], All, List, Option};
-ghost use Rattle.tui_textarea.specs.Prelude.{Answer, CanApply, CanBeMade, ChangesFollow, ChangesLead, ChangesOfRun, SetsLines, SetsLog, taken_by, RangesOfRun, Run, SplicedBy, SplitNoRange, RangesStayWhole, IsSound, Buffer, State, WrapsByCall, Call, RangesFollowCall, IsUndoOrRedo, IsResultOf, IsAfterCall, IsAfterOutOfMemory, Leads, ShowsSame, CallResult, OfSplicesOutOfMemory, edits, is_editable, splices_of};
+ghost use Rattle.std.specs.Prelude.{◌≡◌, ◌≤◌, ℕ, false, [], All, List, Option, Some};
+ghost use Rattle.textarea_data.specs.declared.cursor.CursorUnit.TheVariants.{Cluster};
+ghost use Rattle.textarea_document.specs.Indenting.{line_stretches};
+ghost use Rattle.tui_textarea.specs.CallUnits.{TakesParts};
+ghost use Rattle.tui_textarea.specs.Replacing.{replaceable};
+ghost use Rattle.tui_textarea.specs.Units.{AreWholeStretches, FirstTakesWhole, GoesByClusters};
+ghost use Rattle.tui_textarea.specs.Prelude.{Answer, CanApply, CanBeMade, ChangesFollow, ChangesLead, ChangesOfRun, SetsLines, SetsLog, taken_by, RangesOfRun, Run, SplicedBy, SplitNoRange, RangesStayWhole, IsSettled, IsSound, Buffer, State, WrapsByCall, Call, RangesFollowCall, IsUndoOrRedo, IsResultOf, IsAfterCall, IsAfterOutOfMemory, Leads, ShowsSame, CallResult, OfSplicesOutOfMemory, edits, is_editable, splices_of};
 
 use crate::drawing::laws::{one_drawing, one_rendering};
 use crate::laws::{one_input, one_move};
@@ -106,6 +111,43 @@ pub fn read_only_texts_stay()
     ensures { (old new : State) (call : Call) (returned : CallResult) → is_editable old ≡ false →
         ¬ SetsLines call → IsAfterCall old call returned new →
         new.document.text ≡ old.document.text }
+{}
+
+/// If the cursor goes by clusters, and neither a cluster nor an atomic range strictly contains the
+/// cursor or the selection's beginning, none does after any call that can be made, nor after one that
+/// runs out of memory. While it goes by characters, as at first, they may be anywhere; the call that
+/// sets the unit moves them out.
+pub fn settled_states_stay()
+    ensures made { (old new : State) (call : Call) (returned : CallResult) → IsSound old.document →
+        IsSettled old → CanBeMade call → IsAfterCall old call returned new → IsSettled new }
+    ensures out_of_memory { (old new : State) (call : Call) → IsSound old.document →
+        IsSettled old → IsAfterOutOfMemory old call new → IsSettled new }
+{
+    look_up_leads_back();
+}
+
+/// The same over every run of calls that can be made.
+pub fn settled_runs_stay()
+    ensures { (calls : List Call) (answers : List Answer) (refused : Option ℕ) (old new : State)
+        (buffer displayed : Buffer) → IsSound old.document → IsSettled old →
+        All CanBeMade calls → Run old buffer calls answers refused new displayed → IsSettled new }
+{
+    each_call_stays_sound();
+    settled_states_stay();
+}
+
+/// If the cursor goes by clusters, what the first removal of a call takes begins and ends where neither
+/// a cluster nor an atomic range of the text strictly contains the position. So are all matches that
+/// `replace_all` replaces, and all that `outdent_lines` removes. `delete_str`, undo and redo may take
+/// parts of clusters.
+pub fn removals_take_whole_clusters()
+    ensures first { (state : State) (call : Call) → IsSound state.document →
+        GoesByClusters state → IsSettled state → ¬ TakesParts call →
+        FirstTakesWhole state.document (splices_of state call) }
+    ensures matches { (state : State) → IsSound state.document → GoesByClusters state →
+        AreWholeStretches state.document (replaceable state) }
+    ensures starts { (state : State) → IsSound state.document →
+        AreWholeStretches state.document (line_stretches state.document (Some Cluster)) }
 {}
 
 /// Every call that can be made keeps the invariant of documents, in every state: cursor and anchor

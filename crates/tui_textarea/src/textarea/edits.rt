@@ -1,16 +1,18 @@
 //! Insertions. Each but `duplicate_line` first removes the selected text, as its own edit, and then
 //! moves a cursor that is strictly inside an atomic range to the range's end. With grouping on, both
-//! edits are one group.
+//! edits are one group. After all, cursor and anchor are settled.
 ghost use Rattle.std.specs.Prelude.{◌≡◌, ◌<◌, OnOk, OnErr, IsOk, IfOk, true, false, not, [], length, replicate, vec_len, ◌&&◌, if◌then◌else◌};
 ghost use Rattle.std.specs.Arc.{arc_value};
 ghost use Rattle.std.specs.Str.{chars};
+ghost use Rattle.textarea_data.specs.declared.range.AtomicCursorBias.TheVariants.{Forward};
 ghost use Rattle.textarea_document.specs.Selection.{first_selected_row, last_selected_row, lines_duplicated, with_lines_again};
 ghost use Rattle.tui_textarea.specs.Fitting.{fitting_beside};
-ghost use Rattle.tui_textarea.specs.Prelude.{Character, lines, with_document, text_of, has_symbols, is_selected, fragment_symbols, pasted_symbols, inserts_tab, inserts_text, symbols_or_none_inserted, spaces_to_stop, char_inserted, char_or_break_inserted, line_broken, newline_inserted, tab_inserted, tab_or_spaces_inserted, str_inserted, IsInsertOutOfMemory, selection_cancelled, unselected, admitted_over_selection, bars_break, bars_character, bars_duplicate, bars_tab, fitting_selection, fitting_spaces, is_editable, unless_read_only};
+ghost use Rattle.tui_textarea.specs.Prelude.{Character, lines, with_document, text_of, has_symbols, is_selected, fragment_symbols, pasted_symbols, inserts_tab, inserts_text, symbols_or_none_inserted, spaces_to_stop, char_inserted, char_or_break_inserted, line_broken, newline_inserted, tab_inserted, tab_or_spaces_inserted, str_inserted, IsInsertOutOfMemory, selection_cancelled, unselected, admitted_over_selection, bars_break, bars_character, bars_duplicate, bars_tab, fitting_selection, fitting_spaces, is_editable, unless_read_only, settled};
 
 use crate::textarea::TextArea;
 use std::alloc::{AllocError, Global};
 use std::sync::Arc;
+use textarea_data::range::AtomicCursorBias;
 use textarea_document::document::insertions::has_symbol;
 use textarea_text::fragment::unify_line_ends;
 use textarea_text::tab::spaces_to_stop;
@@ -21,7 +23,7 @@ impl TextArea<'_> {
     /// contains it, as typed; `\n` and `\r` break the line.
     pub fn insert_char(&mut self, c: char) -> Result<(), AllocError>
         ensures ok { OnOk result (self.new ≡ (if bars_character self.old c then self.old else
-            char_inserted self.old c)) }
+            settled Forward (char_inserted self.old c))) }
         ensures err { OnErr result (IsInsertOutOfMemory self.old self.new) }
         ensures nothing { bars_character self.old c ≡ true → IsOk result }
     {
@@ -33,7 +35,7 @@ impl TextArea<'_> {
 
     // The same, whether a guard leaves it out or not.
     fn insert_char_unguarded(&mut self, c: char) -> Result<(), AllocError>
-        ensures ok { OnOk result (self.new ≡ char_inserted self.old c) }
+        ensures ok { OnOk result (self.new ≡ settled Forward (char_inserted self.old c)) }
         ensures err { OnErr result (IsInsertOutOfMemory self.old self.new) }
     {
         let opens = self.begin_call();
@@ -44,11 +46,14 @@ impl TextArea<'_> {
 
     // Replaces the selected text by the character, or by the break that it means.
     fn replace_by_char(&mut self, c: char) -> Result<(), AllocError>
-        ensures ok { OnOk result (self.new ≡ char_or_break_inserted (unselected self.old) c) }
+        ensures ok { OnOk result
+            (self.new ≡ settled Forward (char_or_break_inserted (unselected self.old) c)) }
         ensures err { OnErr result (IsInsertOutOfMemory self.old self.new) }
     {
         self.document.remove_selection(self.time)?;
-        self.insert_char_or_break(c)
+        let inserted = self.insert_char_or_break(c);
+        self.settle(AtomicCursorBias::Forward);
+        inserted
     }
 
     // Inserts the character at the insertion position, or breaks the line there.
@@ -65,8 +70,8 @@ impl TextArea<'_> {
 
     /// Breaks the line at the cursor, or at the end of the atomic range that strictly contains it.
     pub fn insert_newline(&mut self) -> Result<(), AllocError>
-        ensures ok { OnOk result
-            (self.new ≡ (if bars_break self.old then self.old else newline_inserted self.old)) }
+        ensures ok { OnOk result (self.new ≡ (if bars_break self.old then self.old else
+            settled Forward (newline_inserted self.old))) }
         ensures err { OnErr result (IsInsertOutOfMemory self.old self.new) }
         ensures nothing { bars_break self.old ≡ true → IsOk result }
     {
@@ -78,7 +83,7 @@ impl TextArea<'_> {
 
     // The same, whether a guard leaves it out or not.
     fn insert_newline_unguarded(&mut self) -> Result<(), AllocError>
-        ensures ok { OnOk result (self.new ≡ newline_inserted self.old) }
+        ensures ok { OnOk result (self.new ≡ settled Forward (newline_inserted self.old)) }
         ensures err { OnErr result (IsInsertOutOfMemory self.old self.new) }
     {
         let opens = self.begin_call();
@@ -89,11 +94,13 @@ impl TextArea<'_> {
 
     // Replaces the selected text by a line break.
     fn replace_by_break(&mut self) -> Result<(), AllocError>
-        ensures ok { OnOk result (self.new ≡ line_broken (unselected self.old)) }
+        ensures ok { OnOk result (self.new ≡ settled Forward (line_broken (unselected self.old))) }
         ensures err { OnErr result (IsInsertOutOfMemory self.old self.new) }
     {
         self.document.remove_selection(self.time)?;
-        self.document.insert_break(self.time)
+        let inserted = self.document.insert_break(self.time);
+        self.settle(AtomicCursorBias::Forward);
+        inserted
     }
 
     /// Inserts the text at the cursor, or at the end of the atomic range that strictly contains it,
@@ -102,8 +109,8 @@ impl TextArea<'_> {
     pub fn insert_str(&mut self, text: &str) -> Result<bool, AllocError>
         ensures inserted { IfOk result (λ inserted. inserted ≡ (is_editable self.old && inserts_text
             self.old (admitted_over_selection self.old (fragment_symbols (chars text.now))))) }
-        ensures ok { OnOk result (self.new ≡ unless_read_only self.old (str_inserted self.old
-            (admitted_over_selection self.old (fragment_symbols (chars text.now))))) }
+        ensures ok { OnOk result (self.new ≡ unless_read_only self.old (settled Forward (str_inserted
+            self.old (admitted_over_selection self.old (fragment_symbols (chars text.now)))))) }
         ensures err { OnErr result (IsInsertOutOfMemory self.old self.new) }
         ensures nothing { (is_editable self.old && inserts_text self.old (fragment_symbols (chars
             text.now))) ≡ false → IsOk result }
@@ -120,8 +127,8 @@ impl TextArea<'_> {
             (λ inserted. inserted ≡ inserts_text self.old
             (admitted_over_selection self.old (fragment_symbols (chars text.now)))) }
         ensures ok { OnOk result
-            (self.new ≡ str_inserted self.old (admitted_over_selection self.old
-            (fragment_symbols (chars text.now)))) }
+            (self.new ≡ settled Forward (str_inserted self.old (admitted_over_selection self.old
+            (fragment_symbols (chars text.now))))) }
         ensures err { OnErr result (IsInsertOutOfMemory self.old self.new) }
         ensures nothing { inserts_text self.old (fragment_symbols (chars text.now)) ≡ false → IsOk
             result }
@@ -144,8 +151,8 @@ impl TextArea<'_> {
     pub fn insert_pasted(&mut self, text: &str) -> Result<bool, AllocError>
         ensures inserted { IfOk result (λ inserted. inserted ≡ (is_editable self.old && inserts_text
             self.old (admitted_over_selection self.old (pasted_symbols (chars text.now))))) }
-        ensures ok { OnOk result (self.new ≡ unless_read_only self.old (str_inserted self.old
-            (admitted_over_selection self.old (pasted_symbols (chars text.now))))) }
+        ensures ok { OnOk result (self.new ≡ unless_read_only self.old (settled Forward (str_inserted
+            self.old (admitted_over_selection self.old (pasted_symbols (chars text.now)))))) }
         ensures err { OnErr result (IsInsertOutOfMemory self.old self.new) }
         ensures nothing { (is_editable self.old && inserts_text self.old (pasted_symbols (chars
             text.now))) ≡ false → IsOk result }
@@ -162,8 +169,8 @@ impl TextArea<'_> {
             (λ inserted. inserted ≡ inserts_text self.old
             (admitted_over_selection self.old (pasted_symbols (chars text.now)))) }
         ensures ok { OnOk result
-            (self.new ≡ str_inserted self.old (admitted_over_selection self.old
-            (pasted_symbols (chars text.now)))) }
+            (self.new ≡ settled Forward (str_inserted self.old (admitted_over_selection self.old
+            (pasted_symbols (chars text.now))))) }
         ensures err { OnErr result (IsInsertOutOfMemory self.old self.new) }
         ensures nothing { inserts_text self.old (pasted_symbols (chars text.now)) ≡ false → IsOk
             result }
@@ -179,8 +186,8 @@ impl TextArea<'_> {
     pub fn paste(&mut self) -> Result<bool, AllocError>
         ensures inserted { IfOk result (λ inserted. inserted ≡ (is_editable self.old && has_symbols
             (admitted_over_selection self.old self.old.yank))) }
-        ensures ok { OnOk result (self.new ≡ unless_read_only self.old (str_inserted self.old
-            (admitted_over_selection self.old self.old.yank))) }
+        ensures ok { OnOk result (self.new ≡ unless_read_only self.old (settled Forward (str_inserted
+            self.old (admitted_over_selection self.old self.old.yank)))) }
         ensures err { OnErr result (IsInsertOutOfMemory self.old self.new) }
         ensures nothing { (is_editable self.old && inserts_text self.old self.old.yank) ≡ false →
             IsOk result }
@@ -195,8 +202,8 @@ impl TextArea<'_> {
     fn paste_unguarded(&mut self) -> Result<bool, AllocError>
         ensures inserted { IfOk result (λ inserted. inserted ≡ has_symbols
             (admitted_over_selection self.old self.old.yank)) }
-        ensures ok { OnOk result (self.new
-            ≡ str_inserted self.old (admitted_over_selection self.old self.old.yank)) }
+        ensures ok { OnOk result (self.new ≡ settled Forward (str_inserted
+            self.old (admitted_over_selection self.old self.old.yank))) }
         ensures err { OnErr result (IsInsertOutOfMemory self.old self.new) }
         ensures nothing { inserts_text self.old self.old.yank ≡ false → IsOk result }
     {
@@ -215,8 +222,8 @@ impl TextArea<'_> {
     ) -> Result<bool, AllocError>
         ensures inserted { IfOk result (λ inserted. inserted ≡ has_symbols
             (fitting_selection self.old (text_of (arc_value fragment_lines).items))) }
-        ensures ok { OnOk result (self.new ≡ str_inserted self.old
-            (fitting_selection self.old (text_of (arc_value fragment_lines).items))) }
+        ensures ok { OnOk result (self.new ≡ settled Forward (str_inserted self.old
+            (fitting_selection self.old (text_of (arc_value fragment_lines).items)))) }
         ensures err { OnErr result (IsInsertOutOfMemory self.old self.new) }
     {
         let opens = self.begin_call();
@@ -229,11 +236,27 @@ impl TextArea<'_> {
     fn replace_by_fragment(&mut self, fragment_lines: Arc<Vec<String>>) -> Result<bool, AllocError>
         ensures inserted { IfOk result (λ inserted. inserted ≡ has_symbols
             (fitting_selection self.old (text_of (arc_value fragment_lines).items))) }
-        ensures ok { OnOk result (self.new ≡ symbols_or_none_inserted (unselected self.old)
-            (fitting_selection self.old (text_of (arc_value fragment_lines).items))) }
+        ensures ok { OnOk result (self.new ≡ settled Forward (symbols_or_none_inserted
+            (unselected self.old)
+            (fitting_selection self.old (text_of (arc_value fragment_lines).items)))) }
         ensures err { OnErr result (IsInsertOutOfMemory self.old self.new) }
     {
         self.document.remove_selection(self.time)?;
+        let inserted = self.insert_fitting(fragment_lines);
+        self.settle(AtomicCursorBias::Forward);
+        inserted
+    }
+
+    // Inserts what fits of a fragment, and returns whether that has a symbol.
+    fn insert_fitting(&mut self, fragment_lines: Arc<Vec<String>>) -> Result<bool, AllocError>
+        ensures inserted { IfOk result (λ inserted. inserted ≡ has_symbols (fitting_beside
+            self.old.settings.max_chars (length self.old.document.text)
+            (text_of (arc_value fragment_lines).items))) }
+        ensures ok { OnOk result (self.new ≡ symbols_or_none_inserted self.old (fitting_beside
+            self.old.settings.max_chars (length self.old.document.text)
+            (text_of (arc_value fragment_lines).items))) }
+        ensures err { OnErr result (self.new ≡ self.old) }
+    {
         let fitting = self.fitting_fragment(fragment_lines)?;
         self.document.insert(fitting, self.time)
     }
@@ -260,7 +283,8 @@ impl TextArea<'_> {
     /// lines are those up to the last of these lines, and then those from the first of them on.
     pub fn duplicate_line(&mut self) -> Result<(), AllocError>
         ensures ok { OnOk result (self.new ≡ (if bars_duplicate self.old then self.old else
-            with_document self.old (lines_duplicated self.old.document self.old.time))) }
+            settled Forward (with_document self.old
+            (lines_duplicated self.old.document self.old.time)))) }
         ensures err { OnErr result (self.new ≡ self.old) }
         ensures lines { OnOk result (lines self.new.document.text ≡ (if bars_duplicate self.old
             then lines self.old.document.text else with_lines_again (lines self.old.document.text)
@@ -270,7 +294,9 @@ impl TextArea<'_> {
         if self.bars_duplicate() {
             return Ok(());
         }
-        self.duplicate_line_unguarded()
+        self.duplicate_line_unguarded()?;
+        self.settle(AtomicCursorBias::Forward);
+        Ok(())
     }
 
     // The same, whether a guard leaves it out or not.
@@ -292,7 +318,8 @@ impl TextArea<'_> {
         ensures inserted { IfOk result
             (λ inserted. inserted ≡ (not (bars_tab self.old) && inserts_tab self.old)) }
         ensures ok { OnOk result
-            (self.new ≡ (if bars_tab self.old then self.old else tab_inserted self.old)) }
+            (self.new ≡ (if bars_tab self.old then self.old else settled Forward
+            (tab_inserted self.old))) }
         ensures err { OnErr result (IsInsertOutOfMemory self.old self.new) }
         ensures nothing { (not (bars_tab self.old) && inserts_tab self.old) ≡ false → IsOk result }
     {
@@ -305,7 +332,7 @@ impl TextArea<'_> {
     // The same, whether a guard leaves it out or not.
     fn insert_tab_unguarded(&mut self) -> Result<bool, AllocError>
         ensures inserted { IfOk result (λ inserted. inserted ≡ inserts_tab self.old) }
-        ensures ok { OnOk result (self.new ≡ tab_inserted self.old) }
+        ensures ok { OnOk result (self.new ≡ settled Forward (tab_inserted self.old)) }
         ensures err { OnErr result (IsInsertOutOfMemory self.old self.new) }
         ensures nothing { inserts_tab self.old ≡ false → IsOk result }
     {
@@ -324,12 +351,25 @@ impl TextArea<'_> {
         requires some { 0 < tab_length }
         ensures inserted { IfOk result (λ inserted. inserted ≡ true) }
         ensures ok { OnOk result
-            (self.new ≡ tab_or_spaces_inserted (unselected self.old) tab_length) }
+            (self.new ≡ settled Forward
+            (tab_or_spaces_inserted (unselected self.old) tab_length)) }
+        ensures err { OnErr result (IsInsertOutOfMemory self.old self.new) }
+    {
+        self.put_tab(tab_length)?;
+        Ok(true)
+    }
+
+    fn put_tab(&mut self, tab_length: u8) -> Result<(), AllocError>
+        requires some { 0 < tab_length }
+        ensures ok { OnOk result
+            (self.new ≡ settled Forward
+            (tab_or_spaces_inserted (unselected self.old) tab_length)) }
         ensures err { OnErr result (IsInsertOutOfMemory self.old self.new) }
     {
         self.document.remove_selection(self.time)?;
-        self.insert_tab_or_spaces(tab_length)?;
-        Ok(true)
+        let inserted = self.insert_tab_or_spaces(tab_length);
+        self.settle(AtomicCursorBias::Forward);
+        inserted
     }
 
     // Inserts a tab of this length at the insertion position.
@@ -365,24 +405,27 @@ impl TextArea<'_> {
     // cursor to the insertion position.
     fn insert_nothing(&mut self) -> Result<bool, AllocError>
         ensures removed { IfOk result (λ removed. removed ≡ is_selected self.old.document) }
-        ensures ok { OnOk result (self.new ≡ str_inserted self.old []) }
+        ensures ok { OnOk result (self.new ≡ settled Forward (str_inserted self.old [])) }
         ensures err { OnErr result (self.new ≡ self.old) }
         ensures nothing { is_selected self.old.document ≡ false → IsOk result }
     {
         let removed = self.document.remove_selection(self.time)?;
         self.document.insert_nothing();
+        self.settle(AtomicCursorBias::Forward);
         Ok(removed)
     }
 
     // Removes the selected text, returns whether there was any, and drops the selection.
     fn drop_selection(&mut self) -> Result<bool, AllocError>
         ensures removed { IfOk result (λ removed. removed ≡ is_selected self.old.document) }
-        ensures ok { OnOk result (self.new ≡ selection_cancelled (unselected self.old)) }
+        ensures ok { OnOk result
+            (self.new ≡ settled Forward (selection_cancelled (unselected self.old))) }
         ensures err { OnErr result (self.new ≡ self.old) }
         ensures nothing { is_selected self.old.document ≡ false → IsOk result }
     {
         let removed = self.document.remove_selection(self.time)?;
         self.document.set_anchor(None);
+        self.settle(AtomicCursorBias::Forward);
         Ok(removed)
     }
 }

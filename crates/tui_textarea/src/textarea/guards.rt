@@ -156,7 +156,7 @@ impl TextArea<'_> {
     pub(super) fn fits_indent(&self) -> Result<bool, AllocError>
         ensures { IfOk result (λ fits. fits ≡ fits_indent self.now) }
     {
-        let stretches = self.document.line_stretches(false)?;
+        let stretches = self.document.line_stretches(None)?;
         let columns = if self.settings.hard_tab_indent {
             1
         } else {

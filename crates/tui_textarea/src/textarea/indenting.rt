@@ -1,10 +1,12 @@
 //! Lines that are indented and outdented, each call one group of edits.
-ghost use Rattle.std.specs.Prelude.{◌≡◌, IfOk, OnErr, OnOk, [], false, true, ◌&&◌, not, IsOk, if◌then◌else◌};
+ghost use Rattle.std.specs.Prelude.{◌≡◌, IfOk, OnErr, OnOk, [], None, Some, false, ◌&&◌, not, IsOk, if◌then◌else◌};
 ghost use Rattle.textarea_document.specs.Indenting.{lines_indented, lines_outdented, shifts_lines, tab_of, with_starts};
-ghost use Rattle.tui_textarea.specs.Prelude.{lines, with_document, bars_indent, is_editable, unless_read_only};
+ghost use Rattle.textarea_data.specs.declared.range.AtomicCursorBias.TheVariants.{Forward};
+ghost use Rattle.tui_textarea.specs.Prelude.{lines, with_document, bars_indent, is_editable, settled, unless_read_only};
 
 use crate::textarea::TextArea;
 use std::alloc::AllocError;
+use textarea_data::range::AtomicCursorBias;
 
 impl TextArea<'_> {
     /// Inserts a tab at the start of each line of the selection, or of the cursor's line without
@@ -16,30 +18,33 @@ impl TextArea<'_> {
     /// Atomic ranges move along. Without such a line nothing changes.
     pub fn indent_lines(&mut self) -> Result<bool, AllocError>
         ensures indented { IfOk result (λ indented. indented ≡ (not (bars_indent self.old) &&
-            shifts_lines self.old.document false)) }
-        ensures ok { OnOk result (self.new ≡ (if bars_indent self.old then self.old else with_document
-            self.old (lines_indented self.old.document self.old.settings.hard_tab_indent self.old.time))) }
+            shifts_lines self.old.document None)) }
+        ensures ok { OnOk result (self.new ≡ (if bars_indent self.old then self.old else
+            settled Forward (with_document self.old (lines_indented self.old.document
+            self.old.settings.hard_tab_indent self.old.time)))) }
         ensures err { OnErr result (self.new ≡ self.old) }
         ensures lines { OnOk result (lines self.new.document.text ≡ (if bars_indent self.old
-            then lines self.old.document.text else with_starts self.old.document false (tab_of
+            then lines self.old.document.text else with_starts self.old.document None (tab_of
             self.old.document self.old.settings.hard_tab_indent) 0 (lines self.old.document.text))) }
         ensures nothing { is_editable self.old ≡ false → IsOk result }
     {
         if self.read_only() || !self.fits_indent()? {
             return Ok(false);
         }
-        self.indent_lines_unguarded()
+        let indented = self.indent_lines_unguarded()?;
+        self.settle(AtomicCursorBias::Forward);
+        Ok(indented)
     }
 
     // The same, whether the text area is read only or not.
     fn indent_lines_unguarded(&mut self) -> Result<bool, AllocError>
         ensures indented { IfOk result
-            (λ indented. indented ≡ shifts_lines self.old.document false) }
+            (λ indented. indented ≡ shifts_lines self.old.document None) }
         ensures ok { OnOk result (self.new ≡ with_document self.old (lines_indented
             self.old.document self.old.settings.hard_tab_indent self.old.time)) }
         ensures err { OnErr result (self.new ≡ self.old) }
         ensures lines { OnOk result (lines self.new.document.text
-            ≡ with_starts self.old.document false
+            ≡ with_starts self.old.document None
             (tab_of self.old.document self.old.settings.hard_tab_indent) 0
             (lines self.old.document.text)) }
     {
@@ -50,34 +55,39 @@ impl TextArea<'_> {
     /// Removes a tab character from the start of each line of the selection, or of the cursor's
     /// line without one, or the spaces there, at most as many as the tab length, and returns
     /// whether there were any. No character of an atomic range is removed, and nothing after the
-    /// first one. All else is as for `indent_lines`.
+    /// first one; if the cursor goes by clusters, no part of one. All else is as for `indent_lines`.
     pub fn outdent_lines(&mut self) -> Result<bool, AllocError>
         ensures outdented { IfOk result (λ outdented. outdented ≡ (is_editable self.old &&
-            shifts_lines self.old.document true)) }
-        ensures ok { OnOk result (self.new ≡ unless_read_only self.old (with_document self.old
-            (lines_outdented self.old.document self.old.time))) }
+            shifts_lines self.old.document (Some self.old.settings.cursor_unit))) }
+        ensures ok { OnOk result (self.new ≡ unless_read_only self.old (settled Forward
+            (with_document self.old (lines_outdented self.old.document
+            self.old.settings.cursor_unit self.old.time)))) }
         ensures err { OnErr result (self.new ≡ self.old) }
         ensures lines { OnOk result (lines self.new.document.text ≡ (if self.old.settings.read_only
-            then lines self.old.document.text else with_starts self.old.document true [] 0 (lines
-            self.old.document.text))) }
+            then lines self.old.document.text else with_starts self.old.document
+            (Some self.old.settings.cursor_unit) [] 0 (lines self.old.document.text))) }
         ensures nothing { is_editable self.old ≡ false → IsOk result }
     {
         if self.read_only() {
             return Ok(false);
         }
-        self.outdent_lines_unguarded()
+        let outdented = self.outdent_lines_unguarded()?;
+        self.settle(AtomicCursorBias::Forward);
+        Ok(outdented)
     }
 
     // The same, whether the text area is read only or not.
     fn outdent_lines_unguarded(&mut self) -> Result<bool, AllocError>
-        ensures outdented { IfOk result
-            (λ outdented. outdented ≡ shifts_lines self.old.document true) }
+        ensures outdented { IfOk result (λ outdented. outdented ≡ shifts_lines self.old.document
+            (Some self.old.settings.cursor_unit)) }
         ensures ok { OnOk result (self.new ≡ with_document self.old
-            (lines_outdented self.old.document self.old.time)) }
+            (lines_outdented self.old.document self.old.settings.cursor_unit self.old.time)) }
         ensures err { OnErr result (self.new ≡ self.old) }
         ensures lines { OnOk result (lines self.new.document.text
-            ≡ with_starts self.old.document true [] 0 (lines self.old.document.text)) }
+            ≡ with_starts self.old.document (Some self.old.settings.cursor_unit) [] 0
+            (lines self.old.document.text)) }
     {
-        self.document.outdent_lines(self.time)
+        self.document
+            .outdent_lines(self.settings.cursor_unit, self.time)
     }
 }

@@ -1,7 +1,7 @@
 //! Laws of text areas, each the contract of a function that does nothing.
 ghost use Rattle.std.specs.Prelude.{ℕ, ◌≡◌, ◌<◌, ◌≤◌, Bool, true, IfSome, List};
 ghost use Rattle.textarea_text.specs.Text.{Symbol};
-ghost use Rattle.tui_textarea.specs.Prelude.{Call, IsEditUndoneAtOnce, IsInsertion, IsPlace, IsReplacement, IsReplacementUndoneAtOnce, IsUndoneAtOnce, MakesFewEdits, Fits, Splice, done_groups, RestoresAll, RestoresDocument, ListsFit, AreInTextOrder, LeadsToFirstMatch, LeadsToMatchAfter, starts_in, after_edit, is_editable, is_selected, IsSound, HasRowsFromScratch, PastesCopy};
+ghost use Rattle.tui_textarea.specs.Prelude.{Call, IsEditUndoneAtOnce, IsInsertion, IsPlace, IsReplacement, IsReplacementUndoneAtOnce, IsUndoneAtOnce, MakesFewEdits, Fits, Splice, done_groups, RestoresAll, RestoresDocument, ListsFit, AreInTextOrder, LeadsToFirstMatch, LeadsToMatchAfter, match_starts, after_edit, is_editable, is_selected, IsSound, HasRowsFromScratch, PastesCopy};
 ghost use Rattle.tui_textarea.specs.Matches.{BeginsWithFirst, GoesThroughMatches};
 ghost use Rattle.tui_textarea.specs.TextsBefore.{StepsBack};
 
@@ -60,9 +60,10 @@ pub fn calls_are_undone_at_once(area: &TextArea<'_>)
 /// search from one of them goes to the next, and from the last one to the first; a search from the
 /// text's start that may stay there goes to the first. So a walk that begins there, and goes on as
 /// long as a search leads to a position after the last, passes each match once, in order: `begin`
-/// and `next` say what it has passed after each search (`HasPassed`).
+/// and `next` say what it has passed after each search (`HasPassed`). If the cursor goes by clusters,
+/// the matches are those that cut none, and no match may begin inside an atomic range for the walk.
 pub fn matches_in_order(area: &TextArea<'_>)
-    ensures order { AreInTextOrder (starts_in area.now.pattern area.now.document.text) }
+    ensures order { AreInTextOrder (match_starts area.now) }
     ensures after { LeadsToMatchAfter area.now }
     ensures first { LeadsToFirstMatch area.now }
     ensures next { GoesThroughMatches area.now }

@@ -1,6 +1,7 @@
 //! Moves of the cursor.
 ghost use Rattle.std.specs.Prelude.{◌≡◌, IfSome};
-ghost use Rattle.tui_textarea.specs.Prelude.{IsPlace, IsMoved, gone_to, IsMovedWith, IsTarget, anchor_with, bias_of};
+ghost use Rattle.textarea_data.specs.declared.range.AtomicCursorBias.TheVariants.{Forward};
+ghost use Rattle.tui_textarea.specs.Prelude.{IsPlace, IsMoved, gone_to, IsMovedTo, IsMovedWith, IsTarget, anchor_with, bias_of, settled};
 
 use crate::textarea::TextArea;
 use textarea_data::cursor::CursorMove;
@@ -13,7 +14,8 @@ impl TextArea<'_> {
     /// to the neighbouring visual row, at the cursor's display column or, if that row is shorter,
     /// at its greatest cursor column. A target strictly inside an atomic range is moved to the
     /// range's start for Back, Up, Head, Top, WordBack and ParagraphBack, and to its end for other
-    /// moves. InViewport moves to the nearest visible row and column. A move without a target
+    /// moves; so is one inside a cluster, if the cursor goes by clusters. InViewport moves to the
+    /// nearest visible row and column. A move without a target
     /// changes nothing: Forward at the text's end, Back at its start, Up in the first visual row,
     /// Down in the last one, and ParagraphBack in the first line.
     pub fn move_cursor(&mut self, cursor_move: CursorMove)
@@ -27,18 +29,27 @@ impl TextArea<'_> {
     /// range is moved to the range's end. An open selection follows the cursor, and a run of typing
     /// ends. Unlike `CursorMove::Jump` it reaches every row.
     pub fn go_to(&mut self, place: (usize, usize))
-        ensures { self.new ≡ gone_to self.old place }
+        ensures { self.new ≡ settled Forward (gone_to self.old place) }
     {
         let nearest = clip(self.document.lines(), place);
         let target = move_out(self.document.ranges(), nearest, AtomicCursorBias::Forward);
         let anchor = self.anchor_with(self.is_selecting());
         self.document.move_to(target, anchor);
+        self.settle(AtomicCursorBias::Forward);
     }
 
     // Moves the cursor. With Shift an open selection stays open, or one begins at the old cursor;
     // without Shift the selection is dropped.
     pub(crate) fn move_with_shift(&mut self, cursor_move: CursorMove, shift: bool)
         ensures { IsMovedWith self.old shift cursor_move self.new }
+    {
+        self.move_to_target(cursor_move, shift);
+        self.settle(bias_of(cursor_move));
+    }
+
+    // The same, but for clusters.
+    fn move_to_target(&mut self, cursor_move: CursorMove, shift: bool)
+        ensures { IsMovedTo self.old shift cursor_move self.new }
     {
         if let Some(place) = self.target_of(cursor_move) {
             let place = move_out(self.document.ranges(), place, bias_of(cursor_move));

@@ -2,10 +2,12 @@
 ghost use Rattle.std.specs.Prelude.{◌≡◌, ◌&&◌, false, if◌then◌else◌, IfOk, IsOk, OnErr, OnOk};
 ghost use Rattle.textarea_document.specs.Moving.{has_line_above, has_line_below, lines_moved_down, lines_moved_up, with_lines_down, with_lines_up};
 ghost use Rattle.textarea_document.specs.Selection.{first_selected_row, last_selected_row};
-ghost use Rattle.tui_textarea.specs.Prelude.{is_editable, lines, unless_read_only, with_document};
+ghost use Rattle.textarea_data.specs.declared.range.AtomicCursorBias.TheVariants.{Forward};
+ghost use Rattle.tui_textarea.specs.Prelude.{is_editable, lines, settled, unless_read_only, with_document};
 
 use crate::textarea::TextArea;
 use std::alloc::AllocError;
+use textarea_data::range::AtomicCursorBias;
 
 impl TextArea<'_> {
     /// Moves the cursor's line, or the selection's lines, up by one row, so that the line above is
@@ -16,8 +18,8 @@ impl TextArea<'_> {
     pub fn move_lines_up(&mut self) -> Result<bool, AllocError>
         ensures moved { IfOk result
             (λ moved. moved ≡ (is_editable self.old && has_line_above self.old.document)) }
-        ensures ok { OnOk result (self.new ≡ unless_read_only self.old (with_document self.old
-            (lines_moved_up self.old.document self.old.time))) }
+        ensures ok { OnOk result (self.new ≡ unless_read_only self.old (settled Forward
+            (with_document self.old (lines_moved_up self.old.document self.old.time)))) }
         ensures err { OnErr result (self.new ≡ self.old) }
         ensures nothing { (is_editable self.old && has_line_above self.old.document) ≡ false
             → IsOk result }
@@ -29,7 +31,9 @@ impl TextArea<'_> {
         if self.read_only() {
             return Ok(false);
         }
-        self.move_lines_up_unguarded()
+        let moved = self.move_lines_up_unguarded()?;
+        self.settle(AtomicCursorBias::Forward);
+        Ok(moved)
     }
 
     // The same, whether the text area is read only or not.
@@ -53,8 +57,8 @@ impl TextArea<'_> {
     pub fn move_lines_down(&mut self) -> Result<bool, AllocError>
         ensures moved { IfOk result
             (λ moved. moved ≡ (is_editable self.old && has_line_below self.old.document)) }
-        ensures ok { OnOk result (self.new ≡ unless_read_only self.old (with_document self.old
-            (lines_moved_down self.old.document self.old.time))) }
+        ensures ok { OnOk result (self.new ≡ unless_read_only self.old (settled Forward
+            (with_document self.old (lines_moved_down self.old.document self.old.time)))) }
         ensures err { OnErr result (self.new ≡ self.old) }
         ensures nothing { (is_editable self.old && has_line_below self.old.document) ≡ false
             → IsOk result }
@@ -66,7 +70,9 @@ impl TextArea<'_> {
         if self.read_only() {
             return Ok(false);
         }
-        self.move_lines_down_unguarded()
+        let moved = self.move_lines_down_unguarded()?;
+        self.settle(AtomicCursorBias::Forward);
+        Ok(moved)
     }
 
     // The same, whether the text area is read only or not.

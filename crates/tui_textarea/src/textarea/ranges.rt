@@ -1,6 +1,7 @@
 //! Atomic ranges: spans of characters in a line that are edited as a whole.
 ghost use Rattle.std.specs.Prelude.{◌≡◌, IfOk, IsOk, MatchResult, None, OnErr, OnOk, is_some};
-ghost use Rattle.tui_textarea.specs.Prelude.{lines, range_around, AreInOrder, AreRejected, AreValid, range_at_cursor, cursor_normalized, atomic_range_removed, ranges_accepted, ranges_cleared, removable_range, unless_read_only};
+ghost use Rattle.textarea_data.specs.declared.range.AtomicCursorBias.TheVariants.{Forward};
+ghost use Rattle.tui_textarea.specs.Prelude.{lines, range_around, AreInOrder, AreRejected, AreValid, range_at_cursor, cursor_normalized, atomic_range_removed, ranges_accepted, ranges_cleared, removable_range, settled, unless_read_only};
 
 use crate::textarea::TextArea;
 use std::alloc::AllocError;
@@ -16,11 +17,15 @@ impl TextArea<'_> {
     /// those that it removes, an undo or redo also those that it splits.
     pub fn set_atomic_ranges(&mut self, ranges: Vec<AtomicRange>) -> Result<(), AllocError>
         requires valid { AreValid (lines self.old.document.text) ranges.items }
-        ensures ok { OnOk result (self.new ≡ ranges_accepted self.old ranges.items) }
+        ensures ok { OnOk result
+            (self.new ≡ settled Forward (ranges_accepted self.old ranges.items)) }
         ensures err { OnErr result (self.new ≡ self.old) }
     {
         match self.document.try_set_ranges(ranges)? {
-            Ok(()) => Ok(()),
+            Ok(()) => {
+                self.settle(AtomicCursorBias::Forward);
+                Ok(())
+            }
             // Valid ranges are not rejected.
             Err(_) => unreachable!(),
         }
@@ -39,11 +44,18 @@ impl TextArea<'_> {
             (λ error. AreRejected (lines self.old.document.text) ranges.items
             error.rejected.items)) }
         ensures set { IfOk result
-            (λ outcome. OnOk outcome (self.new ≡ ranges_accepted self.old ranges.items)) }
+            (λ outcome. OnOk outcome
+            (self.new ≡ settled Forward (ranges_accepted self.old ranges.items))) }
         ensures unchanged_if_rejected { IfOk result (λ outcome. OnErr outcome (self.new ≡ self.old)) }
         ensures err { OnErr result (self.new ≡ self.old) }
     {
-        self.document.try_set_ranges(ranges)
+        match self.document.try_set_ranges(ranges)? {
+            Ok(()) => {
+                self.settle(AtomicCursorBias::Forward);
+                Ok(Ok(()))
+            }
+            Err(error) => Ok(Err(error)),
+        }
     }
 
     /// Drops all atomic ranges.
@@ -67,9 +79,11 @@ impl TextArea<'_> {
     pub fn normalize_cursor_around_atomic_ranges(&mut self, bias: AtomicCursorBias) -> bool
         ensures moved { result
             ≡ is_some (range_around self.old.document.ranges self.old.document.cursor) }
-        ensures new { self.new ≡ cursor_normalized self.old bias }
+        ensures new { self.new ≡ settled bias (cursor_normalized self.old bias) }
     {
-        self.document.normalize_cursor(bias)
+        let moved = self.document.normalize_cursor(bias);
+        self.settle(bias);
+        moved
     }
 
     /// Returns the atomic range at the cursor: for Backward one that starts before the cursor and
@@ -89,14 +103,17 @@ impl TextArea<'_> {
     ) -> Result<Option<AtomicRange>, AllocError>
         ensures removed { IfOk result (λ range. range ≡ removable_range self.old direction) }
         ensures ok { OnOk result
-            (self.new ≡ unless_read_only self.old (atomic_range_removed self.old direction)) }
+            (self.new ≡ unless_read_only self.old
+            (settled Forward (atomic_range_removed self.old direction))) }
         ensures err { OnErr result (self.new ≡ self.old) }
         ensures nothing { removable_range self.old direction ≡ None → IsOk result }
     {
         if self.read_only() {
             return Ok(None);
         }
-        self.delete_atomic_range_at_cursor_unguarded(direction)
+        let removed = self.delete_atomic_range_at_cursor_unguarded(direction)?;
+        self.settle(AtomicCursorBias::Forward);
+        Ok(removed)
     }
 
     // The same, whether the text area is read only or not.
@@ -110,6 +127,12 @@ impl TextArea<'_> {
         ensures err { OnErr result (self.new ≡ self.old) }
         ensures nothing { range_at_cursor self.old.document direction ≡ None → IsOk result }
     {
-        self.document.remove_range_at_cursor(direction, self.time)
+        let anchor = self.document.anchor();
+        let Some(range) = self.document.range_at_cursor(direction) else {
+            return Ok(None);
+        };
+        self.remove_range(range)?;
+        self.document.set_clipped_anchor(anchor);
+        Ok(Some(range))
     }
 }

@@ -1,21 +1,25 @@
 //! Removals. If text is selected, each of them but `clear` removes only that.
-ghost use Rattle.std.specs.Prelude.{◌≡◌, ◌<◌, OnOk, OnErr, IsOk, IfOk, IfSome, MatchOption, false, true, ◌&&◌};
-ghost use Rattle.tui_textarea.specs.Prelude.{IsPlace, index_of, place_of, has_symbols, break_before_removed, text_cleared, has_ahead, has_before, has_after, has_break_before, has_line_before, has_line_after, has_word_before, has_word_after, index_ahead, back_to_word_removed, on_to_word_end_removed, line_end_removed, line_head_removed, removes_or, symbol_before_removed, symbol_after_removed, symbols_ahead_removed, unselected_or, word_before_removed, word_after_removed, yanked, is_editable, unless_read_only};
+ghost use Rattle.std.specs.Prelude.{◌≡◌, ◌<◌, OnOk, OnErr, IsOk, IfOk, IfSome, MatchOption, None, Some, false, is_some, true, ◌&&◌};
+ghost use Rattle.textarea_ranges.specs.Lookup.{range_end, range_start};
+ghost use Rattle.textarea_data.specs.declared.range.AtomicCursorBias.TheVariants.{Forward};
+ghost use Rattle.tui_textarea.specs.Prelude.{IsPlace, index_of, place_of, has_symbols, break_before_removed, text_cleared, has_ahead, has_before, has_after, has_break_before, has_line_before, has_line_after, has_word_before, has_word_after, index_ahead, back_to_word_removed, on_to_word_end_removed, line_end_removed, line_head_removed, removes_or, symbol_before_removed, symbol_after_removed, symbols_ahead_removed, unselected_or, word_before_removed, word_after_removed, yanked, is_editable, unless_read_only, settled, range_at_cursor, cursor_range_removed_or};
 
 use crate::textarea::TextArea;
 use std::alloc::AllocError;
-use textarea_data::range::AtomicDeleteDirection;
+use textarea_data::range::{AtomicCursorBias, AtomicDeleteDirection, AtomicRange};
 use textarea_document::ends::{word_end_after, word_start_before};
 use textarea_text::places::{ahead, line_end, text_end};
 
 impl TextArea<'_> {
     /// Removes the atomic range that ends at the cursor or strictly contains it, or else the
-    /// character before the cursor, or at column 0 the line break. Returns whether it removed text.
+    /// character before the cursor, or at column 0 the line break. A cursor that goes by clusters
+    /// removes the cluster, and that is no typed edit if it has several characters. Returns whether
+    /// it removed text.
     pub fn delete_char(&mut self) -> Result<bool, AllocError>
         ensures removed { IfOk result (λ removed. removed ≡ (is_editable self.old && removes_or
             self.old (has_before self.old))) }
-        ensures ok { OnOk result (self.new ≡ unless_read_only self.old (unselected_or self.old
-            (symbol_before_removed self.old))) }
+        ensures ok { OnOk result (self.new ≡ unless_read_only self.old (settled Forward
+            (unselected_or self.old (symbol_before_removed self.old)))) }
         ensures err { OnErr result (self.new ≡ self.old) }
         ensures nothing { (is_editable self.old && removes_or self.old (has_before self.old)) ≡
             false → IsOk result }
@@ -23,7 +27,9 @@ impl TextArea<'_> {
         if self.read_only() {
             return Ok(false);
         }
-        self.delete_char_unguarded()
+        let removed = self.delete_char_unguarded()?;
+        self.settle(AtomicCursorBias::Forward);
+        Ok(removed)
     }
 
     // The same, whether the text area is read only or not.
@@ -38,8 +44,7 @@ impl TextArea<'_> {
         if self.document.remove_selection(self.time)? {
             return Ok(true);
         }
-        self.document
-            .remove_before(self.settings.undo_coalescing, self.time)
+        self.remove_before()
     }
 
     /// Removes the atomic range that starts at the cursor or strictly contains it, or else the
@@ -48,8 +53,8 @@ impl TextArea<'_> {
     pub fn delete_next_char(&mut self) -> Result<bool, AllocError>
         ensures removed { IfOk result (λ removed. removed ≡ (is_editable self.old && removes_or
             self.old (has_after self.old))) }
-        ensures ok { OnOk result (self.new ≡ unless_read_only self.old (unselected_or self.old
-            (symbol_after_removed self.old))) }
+        ensures ok { OnOk result (self.new ≡ unless_read_only self.old (settled Forward
+            (unselected_or self.old (symbol_after_removed self.old)))) }
         ensures err { OnErr result (self.new ≡ self.old) }
         ensures nothing { (is_editable self.old && removes_or self.old (has_after self.old)) ≡ false
             → IsOk result }
@@ -57,7 +62,9 @@ impl TextArea<'_> {
         if self.read_only() {
             return Ok(false);
         }
-        self.delete_next_char_unguarded()
+        let removed = self.delete_next_char_unguarded()?;
+        self.settle(AtomicCursorBias::Forward);
+        Ok(removed)
     }
 
     // The same, whether the text area is read only or not.
@@ -72,16 +79,15 @@ impl TextArea<'_> {
         if self.document.remove_selection(self.time)? {
             return Ok(true);
         }
-        self.document
-            .remove_after(self.settings.undo_coalescing, self.time)
+        self.remove_after()
     }
 
     /// Removes the line break before the cursor's line. Returns whether text was removed.
     pub fn delete_newline(&mut self) -> Result<bool, AllocError>
         ensures removed { IfOk result (λ removed. removed ≡ (is_editable self.old && removes_or
             self.old (has_break_before self.old))) }
-        ensures ok { OnOk result (self.new ≡ unless_read_only self.old (unselected_or self.old
-            (break_before_removed self.old))) }
+        ensures ok { OnOk result (self.new ≡ unless_read_only self.old (settled Forward
+            (unselected_or self.old (break_before_removed self.old)))) }
         ensures err { OnErr result (self.new ≡ self.old) }
         ensures nothing { (is_editable self.old && removes_or self.old (has_break_before self.old))
             ≡ false → IsOk result }
@@ -89,7 +95,9 @@ impl TextArea<'_> {
         if self.read_only() {
             return Ok(false);
         }
-        self.delete_newline_unguarded()
+        let removed = self.delete_newline_unguarded()?;
+        self.settle(AtomicCursorBias::Forward);
+        Ok(removed)
     }
 
     // The same, whether the text area is read only or not.
@@ -112,8 +120,8 @@ impl TextArea<'_> {
     pub fn delete_str(&mut self, count: usize) -> Result<bool, AllocError>
         ensures removed { IfOk result (λ removed. removed ≡ (is_editable self.old && removes_or
             self.old (has_ahead self.old count))) }
-        ensures ok { OnOk result (self.new ≡ unless_read_only self.old (unselected_or self.old
-            (symbols_ahead_removed self.old count))) }
+        ensures ok { OnOk result (self.new ≡ unless_read_only self.old (settled Forward
+            (unselected_or self.old (symbols_ahead_removed self.old count)))) }
         ensures err { OnErr result (self.new ≡ self.old) }
         ensures nothing { (is_editable self.old && removes_or self.old (has_ahead self.old count)) ≡
             false → IsOk result }
@@ -121,7 +129,9 @@ impl TextArea<'_> {
         if self.read_only() {
             return Ok(false);
         }
-        self.delete_str_unguarded(count)
+        let removed = self.delete_str_unguarded(count)?;
+        self.settle(AtomicCursorBias::Forward);
+        Ok(removed)
     }
 
     // The same, whether the text area is read only or not.
@@ -150,8 +160,8 @@ impl TextArea<'_> {
     pub fn delete_line_by_end(&mut self) -> Result<bool, AllocError>
         ensures removed { IfOk result (λ removed. removed ≡ (is_editable self.old && removes_or
             self.old (has_line_after self.old))) }
-        ensures ok { OnOk result (self.new ≡ unless_read_only self.old (unselected_or self.old
-            (line_end_removed self.old))) }
+        ensures ok { OnOk result (self.new ≡ unless_read_only self.old (settled Forward
+            (unselected_or self.old (line_end_removed self.old)))) }
         ensures err { OnErr result (self.new ≡ self.old) }
         ensures nothing { (is_editable self.old && removes_or self.old (has_line_after self.old)) ≡
             false → IsOk result }
@@ -159,7 +169,9 @@ impl TextArea<'_> {
         if self.read_only() {
             return Ok(false);
         }
-        self.delete_line_by_end_unguarded()
+        let removed = self.delete_line_by_end_unguarded()?;
+        self.settle(AtomicCursorBias::Forward);
+        Ok(removed)
     }
 
     // The same, whether the text area is read only or not.
@@ -176,9 +188,7 @@ impl TextArea<'_> {
         let cursor = self.document.cursor();
         let end = line_end(self.document.lines(), cursor.0);
         if cursor.1 == end.1 {
-            return self
-                .document
-                .remove_after(self.settings.undo_coalescing, self.time);
+            return self.remove_after();
         }
         self.remove_and_yank(cursor, end)?;
         Ok(true)
@@ -189,8 +199,8 @@ impl TextArea<'_> {
     pub fn delete_line_by_head(&mut self) -> Result<bool, AllocError>
         ensures removed { IfOk result (λ removed. removed ≡ (is_editable self.old && removes_or
             self.old (has_line_before self.old))) }
-        ensures ok { OnOk result (self.new ≡ unless_read_only self.old (unselected_or self.old
-            (line_head_removed self.old))) }
+        ensures ok { OnOk result (self.new ≡ unless_read_only self.old (settled Forward
+            (unselected_or self.old (line_head_removed self.old)))) }
         ensures err { OnErr result (self.new ≡ self.old) }
         ensures nothing { (is_editable self.old && removes_or self.old (has_line_before self.old)) ≡
             false → IsOk result }
@@ -198,7 +208,9 @@ impl TextArea<'_> {
         if self.read_only() {
             return Ok(false);
         }
-        self.delete_line_by_head_unguarded()
+        let removed = self.delete_line_by_head_unguarded()?;
+        self.settle(AtomicCursorBias::Forward);
+        Ok(removed)
     }
 
     // The same, whether the text area is read only or not.
@@ -227,8 +239,8 @@ impl TextArea<'_> {
     pub fn delete_word(&mut self) -> Result<bool, AllocError>
         ensures removed { IfOk result (λ removed. removed ≡ (is_editable self.old && removes_or
             self.old (has_word_before self.old))) }
-        ensures ok { OnOk result (self.new ≡ unless_read_only self.old (unselected_or self.old
-            (word_before_removed self.old))) }
+        ensures ok { OnOk result (self.new ≡ unless_read_only self.old (settled Forward
+            (unselected_or self.old (word_before_removed self.old)))) }
         ensures err { OnErr result (self.new ≡ self.old) }
         ensures nothing { (is_editable self.old && removes_or self.old (has_word_before self.old)) ≡
             false → IsOk result }
@@ -236,7 +248,9 @@ impl TextArea<'_> {
         if self.read_only() {
             return Ok(false);
         }
-        self.delete_word_unguarded()
+        let removed = self.delete_word_unguarded()?;
+        self.settle(AtomicCursorBias::Forward);
+        Ok(removed)
     }
 
     // The same, whether the text area is read only or not.
@@ -251,8 +265,8 @@ impl TextArea<'_> {
         if self.document.remove_selection(self.time)? {
             return Ok(true);
         }
-        let hit = AtomicDeleteDirection::Backward;
-        if self.document.remove_cursor_range(hit, self.time)?.is_some() {
+        let hit = self.remove_cursor_range(AtomicDeleteDirection::Backward)?;
+        if hit {
             return Ok(true);
         }
         self.remove_to_word_start()
@@ -264,8 +278,8 @@ impl TextArea<'_> {
     pub fn delete_next_word(&mut self) -> Result<bool, AllocError>
         ensures removed { IfOk result (λ removed. removed ≡ (is_editable self.old && removes_or
             self.old (has_word_after self.old))) }
-        ensures ok { OnOk result (self.new ≡ unless_read_only self.old (unselected_or self.old
-            (word_after_removed self.old))) }
+        ensures ok { OnOk result (self.new ≡ unless_read_only self.old (settled Forward
+            (unselected_or self.old (word_after_removed self.old)))) }
         ensures err { OnErr result (self.new ≡ self.old) }
         ensures nothing { (is_editable self.old && removes_or self.old (has_word_after self.old)) ≡
             false → IsOk result }
@@ -273,7 +287,9 @@ impl TextArea<'_> {
         if self.read_only() {
             return Ok(false);
         }
-        self.delete_next_word_unguarded()
+        let removed = self.delete_next_word_unguarded()?;
+        self.settle(AtomicCursorBias::Forward);
+        Ok(removed)
     }
 
     // The same, whether the text area is read only or not.
@@ -288,8 +304,8 @@ impl TextArea<'_> {
         if self.document.remove_selection(self.time)? {
             return Ok(true);
         }
-        let hit = AtomicDeleteDirection::Forward;
-        if self.document.remove_cursor_range(hit, self.time)?.is_some() {
+        let hit = self.remove_cursor_range(AtomicDeleteDirection::Forward)?;
+        if hit {
             return Ok(true);
         }
         self.remove_to_word_end()
@@ -300,7 +316,8 @@ impl TextArea<'_> {
     pub fn clear(&mut self) -> Result<bool, AllocError>
         ensures removed { IfOk result (λ removed. removed ≡ (is_editable self.old && has_symbols
             self.old.document.text)) }
-        ensures ok { OnOk result (self.new ≡ unless_read_only self.old (text_cleared self.old)) }
+        ensures ok { OnOk result
+            (self.new ≡ unless_read_only self.old (settled Forward (text_cleared self.old))) }
         ensures err { OnErr result (self.new ≡ self.old) }
         ensures nothing { (is_editable self.old && has_symbols self.old.document.text) ≡ false →
             IsOk result }
@@ -308,7 +325,9 @@ impl TextArea<'_> {
         if self.read_only() {
             return Ok(false);
         }
-        self.clear_unguarded()
+        let removed = self.clear_unguarded()?;
+        self.settle(AtomicCursorBias::Forward);
+        Ok(removed)
     }
 
     // The same, whether the text area is read only or not.
@@ -324,6 +343,73 @@ impl TextArea<'_> {
         let end = text_end(self.document.lines());
         self.remove_and_yank((0, 0), end)?;
         Ok(true)
+    }
+
+    // Removes the character before the cursor, with all of the cluster and the range that have it if
+    // the cursor goes by clusters; returns whether text was.
+    fn remove_before(&mut self) -> Result<bool, AllocError>
+        ensures removed { IfOk result (λ removed. removed ≡ has_before self.old) }
+        ensures ok { OnOk result (self.new ≡ symbol_before_removed self.old) }
+        ensures err { OnErr result (self.new ≡ self.old) }
+        ensures nothing { has_before self.old ≡ false → IsOk result }
+    {
+        let Some(start) = self.earlier_start() else {
+            return self
+                .document
+                .remove_before(self.settings.undo_coalescing, self.time);
+        };
+        self.document
+            .remove(start, self.document.cursor(), self.time)?;
+        Ok(true)
+    }
+
+    // The same for the character after the cursor.
+    fn remove_after(&mut self) -> Result<bool, AllocError>
+        ensures removed { IfOk result (λ removed. removed ≡ has_after self.old) }
+        ensures ok { OnOk result (self.new ≡ symbol_after_removed self.old) }
+        ensures err { OnErr result (self.new ≡ self.old) }
+        ensures nothing { has_after self.old ≡ false → IsOk result }
+    {
+        let Some(stop) = self.later_end() else {
+            return self
+                .document
+                .remove_after(self.settings.undo_coalescing, self.time);
+        };
+        self.document
+            .remove(self.document.cursor(), stop, self.time)?;
+        Ok(true)
+    }
+
+    // Removes the atomic range at the cursor, with the clusters that it shares; returns whether there
+    // was one.
+    fn remove_cursor_range(&mut self, direction: AtomicDeleteDirection) -> Result<bool, AllocError>
+        ensures removed { IfOk result
+            (λ removed. removed ≡ is_some (range_at_cursor self.old.document direction)) }
+        ensures ok { OnOk result (self.new
+            ≡ cursor_range_removed_or (range_at_cursor self.old.document direction) self.old
+            self.old) }
+        ensures err { OnErr result (self.new ≡ self.old) }
+        ensures nothing { range_at_cursor self.old.document direction ≡ None → IsOk result }
+    {
+        let Some(range) = self.document.range_at_cursor(direction) else {
+            return Ok(false);
+        };
+        self.remove_range(range)?;
+        Ok(true)
+    }
+
+    // Removes an atomic range of the text, with the clusters that it shares.
+    pub(super) fn remove_range(&mut self, range: AtomicRange) -> Result<(), AllocError>
+        requires start { IsPlace self.old.document.text (range_start range) }
+        requires stop { IsPlace self.old.document.text (range_end range) }
+        requires ordered { index_of self.old.document.text (range_start range)
+            < index_of self.old.document.text (range_end range) }
+        ensures ok { OnOk result (self.new ≡ cursor_range_removed_or (Some range) self.old self.old) }
+        ensures err { OnErr result (self.new ≡ self.old) }
+    {
+        let start = self.whole_start((range.row, range.start_col));
+        let stop = self.whole_end((range.row, range.end_col));
+        self.document.remove(start, stop, self.time)
     }
 
     // Returns where the next `count` symbols end, or all if there are fewer; `None` without any.
@@ -359,7 +445,8 @@ impl TextArea<'_> {
             return self.document.remove_break(self.time);
         }
         let start = word_start_before(self.document.lines()[cursor.0].as_str(), cursor.1);
-        self.remove_and_yank((cursor.0, start), cursor)?;
+        let whole = self.whole_start((cursor.0, start));
+        self.remove_and_yank(whole, cursor)?;
         Ok(true)
     }
 
@@ -374,12 +461,11 @@ impl TextArea<'_> {
         let cursor = self.document.cursor();
         let line = self.document.lines()[cursor.0].as_str();
         if cursor.1 == line_end(self.document.lines(), cursor.0).1 {
-            return self
-                .document
-                .remove_after(self.settings.undo_coalescing, self.time);
+            return self.remove_after();
         }
         let end = word_end_after(line, cursor.1);
-        self.remove_and_yank(cursor, (cursor.0, end))?;
+        let whole = self.whole_end((cursor.0, end));
+        self.remove_and_yank(cursor, whole)?;
         Ok(true)
     }
 

@@ -2,17 +2,19 @@
 ghost use Rattle.std.specs.Prelude.{◌≡◌, None, OnOk, OnErr, IsOk, IfOk, is_some, length, string_bytes, ◌&&◌, false, if◌then◌else◌};
 ghost use Rattle.std.specs.Arc.{arc_value};
 ghost use Rattle.std.specs.Str.{chars};
-ghost use Rattle.textarea_document.specs.Replacing.{replaces, stretch_symbols};
-ghost use Rattle.tui_textarea.specs.Prelude.{fragment_symbols, fragment_text, text_of, admitted, admitted_between, admitted_for, bars_each, is_editable, unless_read_only};
+ghost use Rattle.textarea_data.specs.declared.range.AtomicCursorBias.TheVariants.{Forward};
+ghost use Rattle.textarea_document.specs.Replacing.{stretch_symbols};
+ghost use Rattle.tui_textarea.specs.Prelude.{fragment_symbols, fragment_text, text_of, admitted, admitted_between, admitted_for, bars_each, is_editable, replaces_whole, settled, unless_read_only, whole_range_replaced};
 ghost use Rattle.tui_textarea.specs.Fitting.{fits_each};
-ghost use Rattle.tui_textarea.specs.Replacing.{match_at_cursor, match_replaced, match_replaced_by, matches_replaced, replaceable, with_range_replaced};
+ghost use Rattle.tui_textarea.specs.Replacing.{match_at_cursor, match_replaced, match_replaced_by, matches_replaced, replaceable};
 
 use crate::matches::{match_at, replaceable_in};
 use crate::textarea::TextArea;
 use crate::textarea::guards::symbol_count;
 use std::alloc::AllocError;
 use std::sync::Arc;
-use textarea_search::search::TextMatch;
+use textarea_data::range::AtomicCursorBias;
+use textarea_search::search::{Direction, TextMatch};
 use textarea_text::fragment::fragment_of;
 use textarea_text::text_slice::between;
 
@@ -28,28 +30,30 @@ impl TextArea<'_> {
 
     /// Replaces the text between two positions, in either order, by this one, and returns whether
     /// it removed or inserted something. Positions beyond the text count as the nearest ones in it.
-    /// Each atomic range that the replaced text overlaps is removed, and each line feed of the text
-    /// breaks the line, as for `insert_str`. The cursor is then after what was inserted, and nothing
-    /// is selected. The removal and the insertion are one group of two edits: if no group was open,
-    /// and two edits are remembered, one undo takes both back (`laws::calls_are_undone_at_once`).
+    /// Each atomic range that the replaced text overlaps is removed, and so is each cluster, if the
+    /// cursor goes by clusters. Each line feed of the text breaks the line, as for `insert_str`. The
+    /// cursor is then after what was inserted, and nothing is selected. The removal and the insertion
+    /// are one group of two edits: if no group was open, and two edits are remembered, one undo takes
+    /// both back (`laws::calls_are_undone_at_once`).
     pub fn replace_range(
         &mut self,
         from: (usize, usize),
         to: (usize, usize),
         text: &str,
     ) -> Result<bool, AllocError>
-        ensures replaced { IfOk result (λ replaced. replaced ≡ (is_editable self.old && replaces
-            self.old.document.text from to
-            (admitted_between self.old from to (fragment_symbols (chars text.now))))) }
-        ensures ok { OnOk result (self.new ≡ unless_read_only self.old (with_range_replaced self.old
-            from to (admitted_between self.old from to (fragment_symbols (chars text.now))))) }
+        ensures replaced { IfOk result (λ replaced. replaced ≡ (is_editable self.old && replaces_whole
+            self.old from to (fragment_symbols (chars text.now)))) }
+        ensures ok { OnOk result (self.new ≡ unless_read_only self.old (settled Forward
+            (whole_range_replaced self.old from to (fragment_symbols (chars text.now))))) }
         ensures err { OnErr result (self.new ≡ self.old) }
         ensures nothing { is_editable self.old ≡ false → IsOk result }
     {
         if self.read_only() {
             return Ok(false);
         }
-        self.replace_range_unguarded(from, to, text)
+        let replaced = self.replace_range_unguarded(from, to, text)?;
+        self.settle(AtomicCursorBias::Forward);
+        Ok(replaced)
     }
 
     // The same, whether the text area is read only or not.
@@ -60,28 +64,28 @@ impl TextArea<'_> {
         text: &str,
     ) -> Result<bool, AllocError>
         ensures replaced { IfOk result (λ replaced. replaced
-            ≡ replaces self.old.document.text from to
-            (admitted_between self.old from to (fragment_symbols (chars text.now)))) }
+            ≡ replaces_whole self.old from to (fragment_symbols (chars text.now))) }
         ensures ok { OnOk result (self.new
-            ≡ with_range_replaced self.old
-            from to (admitted_between self.old from to (fragment_symbols (chars text.now)))) }
+            ≡ whole_range_replaced self.old from to (fragment_symbols (chars text.now))) }
         ensures err { OnErr result (self.new ≡ self.old) }
     {
-        let fragment_lines = self.fragment_between(from, to, text)?;
+        let (start, stop) = self.whole_stretch(from, to);
+        let fragment_lines = self.fragment_between(start, stop, text)?;
         self.document
-            .replace_range(from, to, fragment_lines, self.time)
+            .replace_range(start, stop, fragment_lines, self.time)
     }
 
     /// Replaces the match of the search pattern that begins at the cursor by this text, as
     /// `replace_range` does, and moves the cursor to the next match at or after what was inserted;
     /// after an empty match at least one character later. Returns whether there was such a match.
-    /// Without one, or if an end of it is strictly inside an atomic range, it only searches as
-    /// `search_forward(false)` does.
+    /// Without one, or if an end of it is strictly inside an atomic range or, if the cursor goes by
+    /// clusters, a cluster, it only searches as `search_forward(false)` does.
     pub fn replace_match(&mut self, text: &str) -> Result<bool, AllocError>
         ensures replaced { IfOk result (λ replaced. replaced ≡ (is_editable self.old && is_some
             (match_at_cursor self.old))) }
-        ensures ok { OnOk result (self.new ≡ unless_read_only self.old (match_replaced self.old
-            (admitted_for (match_at_cursor self.old) self.old (fragment_symbols (chars text.now))))) }
+        ensures ok { OnOk result (self.new ≡ unless_read_only self.old (settled Forward
+            (match_replaced self.old (admitted_for (match_at_cursor self.old) self.old
+            (fragment_symbols (chars text.now)))))) }
         ensures err { OnErr result (self.new ≡ self.old) }
         ensures no_pattern { self.old.pattern ≡ None → IsOk result }
         ensures read_only { is_editable self.old ≡ false → IsOk result }
@@ -89,7 +93,9 @@ impl TextArea<'_> {
         if self.read_only() {
             return Ok(false);
         }
-        self.replace_match_unguarded(text)
+        let replaced = self.replace_match_unguarded(text)?;
+        self.settle(AtomicCursorBias::Forward);
+        Ok(replaced)
     }
 
     // The same, whether the text area is read only or not.
@@ -103,7 +109,8 @@ impl TextArea<'_> {
         ensures no_pattern { self.old.pattern ≡ None → IsOk result }
     {
         let Some(found) = self.match_at_cursor()? else {
-            self.search_forward(false)?;
+            let next = self.found_match(Direction::Forward, false)?;
+            self.go_to_match(next);
             return Ok(false);
         };
         self.replace_found(found, text)?;
@@ -112,7 +119,8 @@ impl TextArea<'_> {
 
     /// Replaces each match of the search pattern in the text as it is now by this text, and returns
     /// their number. Matches in what is inserted are left, and so is a match of which an end is
-    /// strictly inside an atomic range; one that contains a range removes it. An empty match inserts
+    /// strictly inside an atomic range, or, if the cursor goes by clusters, a cluster; one that
+    /// contains a range removes it. An empty match inserts
     /// the text. The cursor is then after the last one that was replaced, and nothing is selected;
     /// without matches nothing changes.
     ///
@@ -125,7 +133,8 @@ impl TextArea<'_> {
         ensures count { IfOk result (λ count. count ≡ (if bars_each self.old text.entry then 0 else
             length (replaceable self.old))) }
         ensures ok { OnOk result (self.new ≡ (if bars_each self.old text.entry then self.old else
-            matches_replaced self.old (admitted self.old (fragment_symbols (chars text.now))))) }
+            settled Forward (matches_replaced self.old
+            (admitted self.old (fragment_symbols (chars text.now)))))) }
         ensures err { OnErr result (self.new ≡ self.old) }
         ensures no_pattern { self.old.pattern ≡ None → IsOk result }
         ensures read_only { is_editable self.old ≡ false → IsOk result }
@@ -142,13 +151,15 @@ impl TextArea<'_> {
             (admitted self.old (fragment_symbols (chars text.now))) then
             length (replaceable self.old) else 0)) }
         ensures ok { OnOk result (self.new ≡ (if fits_each self.old (replaceable self.old)
-            (admitted self.old (fragment_symbols (chars text.now))) then matches_replaced self.old
-            (admitted self.old (fragment_symbols (chars text.now))) else self.old)) }
+            (admitted self.old (fragment_symbols (chars text.now))) then settled Forward
+            (matches_replaced self.old (admitted self.old (fragment_symbols (chars text.now))))
+            else self.old)) }
         ensures err { OnErr result (self.new ≡ self.old) }
         ensures no_pattern { self.old.pattern ≡ None → IsOk result }
     {
         let stretches = self.replaceable()?;
         if stretches.is_empty() {
+            self.settle(AtomicCursorBias::Forward);
             return Ok(0);
         }
         let fragment_lines = self.admitted_fragment(text)?;
@@ -157,6 +168,7 @@ impl TextArea<'_> {
         }
         self.document
             .replace_all(stretches.as_slice(), &fragment_lines, self.time)?;
+        self.settle(AtomicCursorBias::Forward);
         Ok(stretches.len())
     }
 
@@ -207,7 +219,8 @@ impl TextArea<'_> {
     {
         let ranges = self.document.ranges();
         let lines = self.document.lines();
-        replaceable_in(self.allocator(), &self.search, ranges, lines)
+        let unit = self.settings.cursor_unit;
+        replaceable_in(self.allocator(), unit, &self.search, ranges, lines)
     }
 
     // Returns the match that begins at the cursor, if there is one and it can be replaced.
@@ -218,7 +231,8 @@ impl TextArea<'_> {
         let ranges = self.document.ranges();
         let lines = self.document.lines();
         let cursor = self.document.cursor();
-        match_at(self.allocator(), &self.search, ranges, lines, cursor)
+        let unit = self.settings.cursor_unit;
+        match_at(self.allocator(), unit, &self.search, ranges, lines, cursor)
     }
 
     // Replaces the match, and moves the cursor to the next one.

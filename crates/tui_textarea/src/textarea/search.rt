@@ -1,10 +1,16 @@
 //! The search pattern, and the searches for it.
 ghost use Rattle.std.specs.Prelude.{◌≡◌, [], Some, None, OnOk, OnErr, IsOk, IfOk, IfErr, IfSome, is_some};
 ghost use Rattle.std.specs.Option.{option_copied};
-ghost use Rattle.tui_textarea.specs.Prelude.{IsPlace, IsErrorFor, IsOwnFailure, IsNewFailure, IsNoSyntaxError, IsPatternFailure, found_match, match_count, match_index, next_match, previous_match, after_search, text_pattern, with_document, with_pattern, with_search_text};
+ghost use Rattle.textarea_data.specs.declared.range.AtomicCursorBias.TheVariants.{Backward, Forward};
+ghost use Rattle.textarea_search.specs.Starts.{found_start};
+ghost use Rattle.tui_textarea.specs.WholeMatches.{cluster_starts};
+ghost use Rattle.tui_textarea.specs.Prelude.{IsPlace, IsErrorFor, IsOwnFailure, IsNewFailure, IsNoSyntaxError, IsPatternFailure, found_match, match_count, match_index, next_match, previous_match, after_search, text_pattern, lines, settled, starts_in, with_document, with_pattern, with_search_text};
 
+use crate::matches::{cluster_starts_in, found_start, index_at};
 use crate::textarea::TextArea;
 use std::alloc::AllocError;
+use textarea_data::cursor::CursorUnit;
+use textarea_data::range::AtomicCursorBias;
 use textarea_document::Document;
 use textarea_search::search::plain_text::{finds_text, text_pattern};
 use textarea_search::search::{Direction, SearchError};
@@ -55,12 +61,19 @@ impl TextArea<'_> {
         }
     }
 
-    /// Returns the number of the search pattern's matches in the whole text; 0 without a pattern.
+    /// Returns the number of the search pattern's matches in the whole text; 0 without a pattern. A
+    /// cursor that goes by clusters doesn't count a match at an end of which none begins or ends.
     pub fn match_count(&self) -> Result<usize, AllocError>
         ensures count { IfOk result (λ count. count ≡ match_count self.now) }
         ensures no_pattern { self.now.pattern ≡ None → IsOk result }
     {
-        self.search.count(self.document.lines())
+        match self.settings.cursor_unit {
+            CursorUnit::Character => self.search.count(self.document.lines()),
+            CursorUnit::Cluster => {
+                let starts = self.cluster_starts()?;
+                Ok(starts.len())
+            }
+        }
     }
 
     /// Returns the number, counted from 0 in the order of the text, of the match that starts at the
@@ -69,8 +82,14 @@ impl TextArea<'_> {
         ensures index { IfOk result (λ index. index ≡ match_index self.now) }
         ensures no_pattern { self.now.pattern ≡ None → IsOk result }
     {
-        self.search
-            .index(self.document.lines(), self.document.cursor())
+        let cursor = self.document.cursor();
+        match self.settings.cursor_unit {
+            CursorUnit::Character => self.search.index(self.document.lines(), cursor),
+            CursorUnit::Cluster => {
+                let starts = self.cluster_starts()?;
+                Ok(index_at(cursor, starts.as_slice()))
+            }
+        }
     }
 
     /// Returns the text of the search pattern, if one is set.
@@ -82,18 +101,22 @@ impl TextArea<'_> {
 
     /// Moves the cursor to the next start of a match, and returns whether there was one: the first
     /// after the cursor or, with `match_cursor`, at it, and past the text's end the first of all.
-    /// An open selection stays open, and a run of typing ends. Without a match nothing changes.
+    /// A cursor that goes by clusters skips the matches that `match_count` does. An open selection
+    /// stays open, and a run of typing ends. Without a match nothing changes.
     pub fn search_forward(&mut self, match_cursor: bool) -> Result<bool, AllocError>
         ensures found { IfOk result (λ found. found ≡ is_some (next_match self.old match_cursor)) }
         ensures ok { OnOk result
-            (self.new ≡ after_search self.old (next_match self.old match_cursor)) }
+            (self.new ≡ settled Forward
+            (after_search self.old (next_match self.old match_cursor))) }
         ensures place { OnOk result
             (IfSome (next_match self.old match_cursor) (IsPlace self.old.document.text)) }
         ensures err { OnErr result (self.new ≡ self.old) }
         ensures no_pattern { self.old.pattern ≡ None → IsOk result }
     {
         let found = self.found_match(Direction::Forward, match_cursor)?;
-        Ok(self.go_to_match(found))
+        let went = self.go_to_match(found);
+        self.settle(AtomicCursorBias::Forward);
+        Ok(went)
     }
 
     /// Moves the cursor to the last start of a match before it or, with `match_cursor`, at it, and
@@ -103,18 +126,21 @@ impl TextArea<'_> {
         ensures found { IfOk result
             (λ found. found ≡ is_some (previous_match self.old match_cursor)) }
         ensures ok { OnOk result
-            (self.new ≡ after_search self.old (previous_match self.old match_cursor)) }
+            (self.new ≡ settled Backward
+            (after_search self.old (previous_match self.old match_cursor))) }
         ensures place { OnOk result
             (IfSome (previous_match self.old match_cursor) (IsPlace self.old.document.text)) }
         ensures err { OnErr result (self.new ≡ self.old) }
         ensures no_pattern { self.old.pattern ≡ None → IsOk result }
     {
         let found = self.found_match(Direction::Back, match_cursor)?;
-        Ok(self.go_to_match(found))
+        let went = self.go_to_match(found);
+        self.settle(AtomicCursorBias::Backward);
+        Ok(went)
     }
 
     // Returns the position that a search from the cursor finds.
-    fn found_match(
+    pub(super) fn found_match(
         &mut self,
         direction: Direction,
         match_cursor: bool,
@@ -127,10 +153,45 @@ impl TextArea<'_> {
         ensures same { self.new ≡ self.old }
         ensures no_pattern { self.old.pattern ≡ None → IsOk result }
     {
+        match self.settings.cursor_unit {
+            CursorUnit::Character => self.found_by_characters(direction, match_cursor),
+            CursorUnit::Cluster => {
+                let starts = self.cluster_starts()?;
+                let cursor = self.document.cursor();
+                Ok(found_start(direction, starts.as_slice(), cursor, match_cursor))
+            }
+        }
+    }
+
+    // The same among all matches.
+    fn found_by_characters(
+        &mut self,
+        direction: Direction,
+        match_cursor: bool,
+    ) -> Result<Option<(usize, usize)>, AllocError>
+        ensures found { IfOk result (λ place. place ≡ found_start direction
+            (starts_in self.old.pattern self.old.document.text) self.old.document.cursor
+            match_cursor) }
+        ensures place { OnOk result (IfSome (found_start direction
+            (starts_in self.old.pattern self.old.document.text) self.old.document.cursor
+            match_cursor) (IsPlace self.old.document.text)) }
+        ensures same { self.new ≡ self.old }
+        ensures no_pattern { self.old.pattern ≡ None → IsOk result }
+    {
         let cursor = self.document.cursor();
         let lines = self.document.lines();
         self.drawing
             .find_match(&self.search, direction, lines, cursor, match_cursor)
+    }
+
+    // Returns where the matches start that cut no cluster, in the order of the text.
+    fn cluster_starts(&self) -> Result<Vec<(usize, usize)>, AllocError>
+        ensures found { IfOk result (λ starts. starts.items
+            ≡ cluster_starts self.now.pattern (lines self.now.document.text)) }
+        ensures no_pattern { self.now.pattern ≡ None → IsOk result }
+    {
+        let lines = self.document.lines();
+        cluster_starts_in(self.allocator(), &self.search, lines)
     }
 
     // Returns the position that a search forward from a document's cursor finds in the document.
@@ -148,13 +209,17 @@ impl TextArea<'_> {
     {
         let cursor = document.cursor();
         let lines = document.lines();
-        self.drawing.find_match(
-            &self.search,
-            Direction::Forward,
-            lines,
-            cursor,
-            match_cursor,
-        )
+        let direction = Direction::Forward;
+        match self.settings.cursor_unit {
+            CursorUnit::Character => {
+                self.drawing
+                    .find_match(&self.search, direction, lines, cursor, match_cursor)
+            }
+            CursorUnit::Cluster => {
+                let starts = cluster_starts_in(self.allocator(), &self.search, lines)?;
+                Ok(found_start(direction, starts.as_slice(), cursor, match_cursor))
+            }
+        }
     }
 
     // Moves the cursor to the found position, if there is one, and returns whether there is.

@@ -1,11 +1,13 @@
 //! The selection, copying and cutting.
 ghost use Rattle.std.specs.Prelude.{◌≡◌, OnOk, OnErr, IsOk, IfOk, IfSome, false, is_some, string_bytes, if◌then◌else◌};
 ghost use Rattle.std.specs.Str.{chars};
-ghost use Rattle.tui_textarea.specs.Prelude.{IsPlace, is_selected, selection, fragment_symbols, fragment_text, all_selected, selection_copied, selection_cut, selection_cancelled, selection_started};
+ghost use Rattle.textarea_data.specs.declared.range.AtomicCursorBias.TheVariants.{Forward};
+ghost use Rattle.tui_textarea.specs.Prelude.{IsPlace, is_selected, selection, fragment_symbols, fragment_text, all_selected, selection_copied, selection_cut, selection_cancelled, selection_started, settled};
 
 use crate::textarea::TextArea;
 use std::alloc::AllocError;
 use std::sync::Arc;
+use textarea_data::range::AtomicCursorBias;
 use textarea_text::fragment::{fragment_of, join_with_line_feeds};
 use textarea_text::places::text_end;
 use textarea_text::text_slice::between;
@@ -27,10 +29,11 @@ impl TextArea<'_> {
 
     /// Selects the whole text, and moves the cursor to its end.
     pub fn select_all(&mut self)
-        ensures { self.new ≡ all_selected self.old }
+        ensures { self.new ≡ settled Forward (all_selected self.old) }
     {
         let end = text_end(self.document.lines());
         self.document.move_to(end, Some((0, 0)));
+        self.settle(AtomicCursorBias::Forward);
     }
 
     /// Returns whether a selection is open, even an empty one.
@@ -81,14 +84,16 @@ impl TextArea<'_> {
     pub fn cut(&mut self) -> Result<bool, AllocError>
         ensures removed { IfOk result (λ removed. removed ≡ is_selected self.old.document) }
         ensures ok { OnOk result (self.new ≡ (if self.old.settings.read_only then selection_copied
-            self.old else selection_cut self.old)) }
+            self.old else settled Forward (selection_cut self.old))) }
         ensures err { OnErr result (self.new ≡ self.old) }
         ensures nothing { is_selected self.old.document ≡ false → IsOk result }
     {
         if self.read_only() {
             return self.copy_selected();
         }
-        self.cut_unguarded()
+        let removed = self.cut_unguarded()?;
+        self.settle(AtomicCursorBias::Forward);
+        Ok(removed)
     }
 
     // The same, whether the text area is read only or not.

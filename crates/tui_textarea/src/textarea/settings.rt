@@ -5,6 +5,7 @@ ghost use Rattle.tui_textarea.specs.Prelude.{empty_log, run_ended, default_setti
 
 use crate::textarea::TextArea;
 use std::time::Duration;
+use textarea_data::cursor::CursorUnit;
 use textarea_text::util::spaces;
 
 /// The settings of a text area.
@@ -22,11 +23,13 @@ pub struct Settings {
     pub single_line: bool,
     /// The greatest number of symbols of the text, if there is one.
     pub max_chars: Option<usize>,
+    /// Whether the cursor goes by characters or by grapheme clusters.
+    pub cursor_unit: CursorUnit,
 }
 
 impl Default for Settings {
-    /// Tabs as spaces, typed edits do not join, no edits are grouped, and the text can be edited
-    /// and have several lines and any number of characters.
+    /// Tabs as spaces, typed edits do not join, no edits are grouped, the text can be edited and have
+    /// several lines and any number of characters, and the cursor goes by characters.
     fn default() -> Settings
         ensures { result ≡ default_settings }
     {
@@ -37,6 +40,7 @@ impl Default for Settings {
             read_only: false,
             single_line: false,
             max_chars: None,
+            cursor_unit: CursorUnit::Character,
         }
     }
 }

@@ -48,3 +48,8 @@ pub returns-clause-changes : goal.returns-clause-changes
 returns-clause-changes c =
     let made = c.make_all in
     c.changes_follow_each_run.ensures c.args.calls.now made.result.answers.items made.result.refused c.args.area.now made.new.area c.args.buffer.now made.new.buffer c.is_sound.ensures c.requires made.ensures
+
+pub returns-clause-settled : goal.returns-clause-settled
+returns-clause-settled c = λ settled.
+    let made = c.make_all in
+    c.settled_runs_stay.ensures c.args.calls.now made.result.answers.items made.result.refused c.args.area.now made.new.area c.args.buffer.now made.new.buffer c.is_sound.ensures settled c.requires made.ensures

@@ -1,6 +1,8 @@
 use Rattle.std.proofs.Common.{◌≡◌, ◌≢◌, ◌∙◌, [], List, ap, subst, sym}
 use Rattle.std.specs.Result.{MatchResult, OnErr, OnOk}
+use Rattle.textarea_data.specs.declared.range.AtomicCursorBias.TheVariants.{Forward}
 use Rattle.tui_textarea.specs.Ranges.{ranges_accepted}
+use Rattle.tui_textarea.specs.Units.{settled}
 use Rattle.textarea_text.specs.Text.{lines}
 use Rattle.textarea_data.specs.declared.range.RejectedAtomicRange.{RejectedAtomicRange}
 use Rattle.textarea_ranges.specs.Rejected.{AreRejected}
@@ -22,7 +24,7 @@ returns-in-Ok-clause-answer c = sym (ap ranges_result (none c))
 
 pub returns-in-Ok-clause-ok : goal.returns-in-Ok-clause-ok
 returns-in-Ok-clause-ok c =
-    subst (λ outcome. OnOk outcome (c.try_set_atomic_ranges.new.self ≡ ranges_accepted c.args.area.now c.args.ranges.items)) c.in-Ok.is c.in_ok-try_set_atomic_ranges.ensures.set
+    subst (λ outcome. OnOk outcome (c.try_set_atomic_ranges.new.self ≡ settled Forward (ranges_accepted c.args.area.now c.args.ranges.items))) c.in-Ok.is c.in_ok-try_set_atomic_ranges.ensures.set
     ∙ sym (ap (λ (rejected : List RejectedAtomicRange). with_ranges_if rejected c.args.area.now c.args.ranges.items) (none c))
 
 some : (c : goal.In-Err) → rejected_ranges c.args.area.now c.args.ranges.items ≢ []

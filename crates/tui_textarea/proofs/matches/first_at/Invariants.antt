@@ -1,6 +1,6 @@
 use Rattle.std.proofs.Common.{◌≡◌, drop}
 use Rattle.std.specs.Prelude.{find}
-use Rattle.tui_textarea.specs.Replacing.{begins_at}
+use Rattle.tui_textarea.specs.WholeMatches.{begins_at}
 use Rattle.tui_textarea.proofs.matches.first_at.Given as goal
 
 abbrev pub invariant-loop-found : goal.invariant-loop-found

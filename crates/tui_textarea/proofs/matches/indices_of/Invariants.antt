@@ -1,5 +1,5 @@
 use Rattle.std.proofs.Common.{◌≡◌, ◌++◌, map, drop}
-use Rattle.tui_textarea.specs.Replacing.{indices_of}
+use Rattle.tui_textarea.specs.WholeMatches.{indices_of}
 use Rattle.tui_textarea.proofs.matches.indices_of.Given as goal
 
 abbrev pub invariant-loop-found : goal.invariant-loop-found

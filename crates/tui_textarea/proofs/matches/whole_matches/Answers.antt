@@ -4,7 +4,7 @@ use Rattle.std.proofs.lemmas.Fn.{filter_same}
 use Rattle.textarea_text.specs.Text.{lines_of}
 use Rattle.textarea_search.specs.ColumnPairs.{match_column_pairs}
 use Rattle.textarea_search.specs.TextMatches.{matches_from}
-use Rattle.tui_textarea.specs.Replacing.{cuts_no_range, whole_matches}
+use Rattle.tui_textarea.specs.WholeMatches.{cuts_no_range, whole_matches}
 use Rattle.tui_textarea.proofs.Searches.{bytes_of}
 use Rattle.tui_textarea.proofs.matches.whole_matches.Goals as goal
 

@@ -1,4 +1,6 @@
 use Rattle.std.proofs.Common.{◌≡◌, ◌≢◌, MatchOption, is_some}
+use Rattle.textarea_data.specs.declared.range.AtomicCursorBias.TheVariants.{Forward}
+use Rattle.tui_textarea.specs.Units.{settled}
 use Rattle.tui_textarea.specs.Guards.{removable_range, unless_read_only}
 use Rattle.tui_textarea.specs.Ranges.{atomic_range_removed}
 use Rattle.textarea_c.specs.Calls.{TriesBy}
@@ -11,7 +13,7 @@ pub returns-clause-area : goal.returns-clause-area
 returns-clause-area c =
     let status = c.remove_numbered-status.result in
     lifted c.args.handle.now.stored.content c.put.new.self.stored.content status
-    (λ a b. TriesBy (direction_of c.args.direction) (λ side. is_some (removable_range a.area side)) (λ side. unless_read_only a.area (atomic_range_removed a.area side)) status a b)
+    (λ a b. TriesBy (direction_of c.args.direction) (λ side. is_some (removable_range a.area side)) (λ side. unless_read_only a.area (settled Forward (atomic_range_removed a.area side))) status a b)
     c.in-Some.editor.value c.remove_numbered-status.new.editor c.deref_mut.result.now c.in-Some.ensures.taken c.deref_mut.ensures.value c.put.ensures c.remove_numbered-status.ensures.area
 
 pub returns-clause-range : goal.returns-clause-range

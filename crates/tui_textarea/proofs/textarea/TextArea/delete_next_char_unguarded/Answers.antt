@@ -1,8 +1,6 @@
 use Rattle.std.proofs.Common.{◌∙◌, sym}
-use Rattle.textarea_document.specs.Edits.{removed_after}
-use Rattle.tui_textarea.specs.Removals.{has_after}
-use Rattle.tui_textarea.specs.State.{State}
-use Rattle.tui_textarea.proofs.Unselected.{answered_unselected, made_unselected}
+use Rattle.tui_textarea.specs.Removals.{has_after, symbol_after_removed}
+use Rattle.tui_textarea.proofs.Unselected.{answered_unselected, then_unselected}
 use Rattle.tui_textarea.proofs.textarea.TextArea.delete_next_char_unguarded.Goals as goal
 
 pub returns-clause-removed : goal.returns-clause-removed
@@ -12,5 +10,5 @@ returns-clause-removed c =
 
 pub returns-clause-ok : goal.returns-clause-ok
 returns-clause-ok c =
-    made_unselected c.remove_after.result (λ (s : State). removed_after s.document s.settings.undo_coalescing s.time) c.self.view_is c.remove_selection.new.self
-    c.remove_after.new.self c.in_ok-remove_selection.ensures.ok (sym c.in_ok-remove_selection.ensures.removed ∙ c.if-branch.false) c.remove_after.ensures.ok
+    then_unselected c.remove_after.result symbol_after_removed c.self.view_is c.remove_selection.new.self c.remove_after.new.self
+    c.in_ok-remove_selection.ensures.ok (sym c.in_ok-remove_selection.ensures.removed ∙ c.if-branch.false) c.remove_after.ensures.ok

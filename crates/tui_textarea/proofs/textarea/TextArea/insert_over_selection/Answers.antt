@@ -6,7 +6,9 @@ use Rattle.tui_textarea.specs.Edits.{symbols_or_none_inserted}
 use Rattle.tui_textarea.specs.Fitting.{fitting_selection}
 use Rattle.tui_textarea.specs.Grouping.{call_begun, call_ended}
 use Rattle.tui_textarea.specs.Selection.{unselected}
+use Rattle.textarea_data.specs.declared.range.AtomicCursorBias.TheVariants.{Forward}
 use Rattle.tui_textarea.specs.State.{State}
+use Rattle.tui_textarea.specs.Units.{settled}
 use Rattle.tui_textarea.proofs.Grouping.{ended_err, ended_ok, fitting_beside_group}
 use Rattle.tui_textarea.proofs.textarea.TextArea.insert_over_selection.Goals as goal
 
@@ -23,7 +25,7 @@ returns-clause-ok c =
     let old = c.args.self.now in
     let symbols = text_of c.args.fragment_lines.value.items in
     on_ok_weaker c.replace_by_fragment-inserted.result
-    (λ e. e ∙ ap (λ (t : List Symbol). call_ended old (symbols_or_none_inserted (unselected (call_begun old)) t)) (fitting_beside_group old symbols))
+    (λ e. e ∙ ap (λ (t : List Symbol). settled Forward (call_ended old (symbols_or_none_inserted (unselected (call_begun old)) t))) (fitting_beside_group old symbols))
     (ended_ok c.replace_by_fragment-inserted.result (λ (s : State). symbols_or_none_inserted (unselected s) (fitting_selection s symbols)) old
     c.replace_by_fragment-inserted.new.self c.begin_call-opens.ensures.opens
     c.begin_call-opens.ensures.begun c.end_call.ensures c.replace_by_fragment-inserted.ensures.ok)

@@ -10,6 +10,8 @@ use Rattle.tui_textarea.specs.Edits.{inserts_text, str_inserted}
 use Rattle.tui_textarea.specs.Fitting.{fitting_selection}
 use Rattle.tui_textarea.specs.Guards.{admitted_over_selection}
 use Rattle.tui_textarea.specs.State.{State}
+use Rattle.textarea_data.specs.declared.range.AtomicCursorBias.TheVariants.{Forward}
+use Rattle.tui_textarea.specs.Units.{settled}
 use Rattle.tui_textarea.proofs.Admitted.{admitted_over_none, inserts_none, selected_is}
 use Rattle.tui_textarea.proofs.Filled.{none_unless}
 use Rattle.tui_textarea.proofs.textarea.TextArea.insert_str_unguarded.Goals as goal
@@ -27,7 +29,7 @@ returns-then-not-has_text-clause-ok c =
     let state = c.args.self.now in
     let symbols = fragment_symbols (chars c.args.text.now) in
     let none = none_unless c.has_text.result symbols c.has_text.ensures c.if-not-has_text.true in
-    on_ok_weaker c.insert_nothing.result (λ e. e ∙ ap (str_inserted state) (sym (admitted_over_none state symbols none))) c.insert_nothing.ensures.ok
+    on_ok_weaker c.insert_nothing.result (λ e. e ∙ ap (λ (t : List Symbol). settled Forward (str_inserted state t)) (sym (admitted_over_none state symbols none))) c.insert_nothing.ensures.ok
 
 pub returns-then-removes-clause-inserted : goal.returns-then-removes-clause-inserted
 returns-then-removes-clause-inserted c =
@@ -39,7 +41,7 @@ returns-then-removes-clause-inserted c =
 
 pub returns-then-removes-clause-ok : goal.returns-then-removes-clause-ok
 returns-then-removes-clause-ok c =
-    c.in_ok-inserts.ensures.ok ∙ ap (λ (t : List Symbol). str_inserted c.args.self.now (fitting_selection c.args.self.now t)) c.in_ok-fragment_lines.ensures
+    c.in_ok-inserts.ensures.ok ∙ ap (λ (t : List Symbol). settled Forward (str_inserted c.args.self.now (fitting_selection c.args.self.now t))) c.in_ok-fragment_lines.ensures
 
 pub returns-clause-inserted : goal.returns-clause-inserted
 returns-clause-inserted c =
@@ -53,4 +55,4 @@ returns-clause-inserted c =
 
 pub returns-clause-ok : goal.returns-clause-ok
 returns-clause-ok c =
-    c.in_ok-inserts.ensures.ok ∙ ap (λ (t : List Symbol). str_inserted c.args.self.now (fitting_selection c.args.self.now t)) c.in_ok-fragment_lines.ensures
+    c.in_ok-inserts.ensures.ok ∙ ap (λ (t : List Symbol). settled Forward (str_inserted c.args.self.now (fitting_selection c.args.self.now t))) c.in_ok-fragment_lines.ensures

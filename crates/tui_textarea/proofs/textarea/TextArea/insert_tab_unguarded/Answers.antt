@@ -7,7 +7,9 @@ use Rattle.tui_textarea.specs.Edits.{inserts_tab, tab_or_spaces_inserted}
 use Rattle.tui_textarea.specs.Grouping.{call_begun, call_ended}
 use Rattle.tui_textarea.specs.LayoutCalls.{tab_length}
 use Rattle.tui_textarea.specs.Selection.{unselected}
+use Rattle.textarea_data.specs.declared.range.AtomicCursorBias.TheVariants.{Forward}
 use Rattle.tui_textarea.specs.State.{State}
+use Rattle.tui_textarea.specs.Units.{settled}
 use Rattle.tui_textarea.proofs.Grouping.{ended_err, ended_ok, tab_none}
 use Rattle.tui_textarea.proofs.textarea.TextArea.insert_tab_unguarded.Goals as goal
 
@@ -30,7 +32,7 @@ returns-clause-inserted c =
 pub returns-clause-ok : goal.returns-clause-ok
 returns-clause-ok c =
     on_ok_weaker c.replace_by_tab-inserted.result
-    (λ e. e ∙ ap (λ (n : ℕ). call_ended c.args.self.now (tab_or_spaces_inserted (unselected (call_begun c.args.self.now)) n))
+    (λ e. e ∙ ap (λ (n : ℕ). settled Forward (call_ended c.args.self.now (tab_or_spaces_inserted (unselected (call_begun c.args.self.now)) n)))
     (read c.self.view_is c.layout_settings-tab_length.result c.layout_settings-tab_length.ensures))
     (ended_ok c.replace_by_tab-inserted.result (λ (s : State). tab_or_spaces_inserted (unselected s) c.layout_settings-tab_length.result.tab_len) c.args.self.now c.replace_by_tab-inserted.new.self c.begin_call-opens.ensures.opens
     c.begin_call-opens.ensures.begun c.end_call.ensures c.replace_by_tab-inserted.ensures.ok)
@@ -46,6 +48,6 @@ returns-clause-nothing c = λ none.
 pub returns-then-tab_length-eq0-clause-ok : goal.returns-then-tab_length-eq0-clause-ok
 returns-then-tab_length-eq0-clause-ok c =
     on_ok_weaker c.drop_selection.result
-    (λ e. e ∙ tab_none c.args.self.now
-    (sym (read c.self.view_is c.layout_settings-tab_length.result c.layout_settings-tab_length.ensures) ∙ c.if-tab_length-eq0.true))
+    (λ e. e ∙ ap (settled Forward) (tab_none c.args.self.now
+    (sym (read c.self.view_is c.layout_settings-tab_length.result c.layout_settings-tab_length.ensures) ∙ c.if-tab_length-eq0.true)))
     c.drop_selection.ensures.ok

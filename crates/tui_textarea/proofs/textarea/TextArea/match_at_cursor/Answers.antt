@@ -10,9 +10,10 @@ pub returns-clause-found : goal.returns-clause-found
 returns-clause-found c =
     let document = c.self.inside.document in
     let pattern = c.self.inside.search in
+    let unit = c.self.inside.settings.cursor_unit in
     let found = c.match_at.result in
     subst (λ (s : State). IfOk found (λ found. found ≡ match_at_cursor s)) c.self.view_is
-    (subst (λ (rows : List (List ℕ)). IfOk found (λ found. found ≡ match_at document.ranges pattern rows document.cursor)) c.lines-lines.ensures.lines
-    (subst (λ (ranges : List AtomicRange). IfOk found (λ found. found ≡ match_at ranges pattern (lines_of c.lines-lines.result.now) document.cursor)) c.ranges-ranges.ensures.value
-    (subst (λ (place : Place). IfOk found (λ found. found ≡ match_at c.ranges-ranges.result.now pattern (lines_of c.lines-lines.result.now) place)) c.cursor-cursor.ensures.value
+    (subst (λ (rows : List (List ℕ)). IfOk found (λ found. found ≡ match_at unit document.ranges pattern rows document.cursor)) c.lines-lines.ensures.lines
+    (subst (λ (ranges : List AtomicRange). IfOk found (λ found. found ≡ match_at unit ranges pattern (lines_of c.lines-lines.result.now) document.cursor)) c.ranges-ranges.ensures.value
+    (subst (λ (place : Place). IfOk found (λ found. found ≡ match_at unit c.ranges-ranges.result.now pattern (lines_of c.lines-lines.result.now) place)) c.cursor-cursor.ensures.value
     c.match_at.ensures.found)))

@@ -10,6 +10,6 @@ returns-clause-found c =
     let pattern = c.self.inside.search in
     let found = c.replaceable_in.result in
     subst (λ (s : State). IfOk found (λ indices. indices.items ≡ replaceable s)) c.self.view_is
-    (subst (λ (rows : List (List ℕ)). IfOk found (λ indices. indices.items ≡ replaceable_in c.self.inside.document.ranges pattern rows)) c.lines-lines.ensures.lines
-    (subst (λ (ranges : List AtomicRange). IfOk found (λ indices. indices.items ≡ replaceable_in ranges pattern (lines_of c.lines-lines.result.now))) c.ranges-ranges.ensures.value
+    (subst (λ (rows : List (List ℕ)). IfOk found (λ indices. indices.items ≡ replaceable_in c.self.inside.settings.cursor_unit c.self.inside.document.ranges pattern rows)) c.lines-lines.ensures.lines
+    (subst (λ (ranges : List AtomicRange). IfOk found (λ indices. indices.items ≡ replaceable_in c.self.inside.settings.cursor_unit ranges pattern (lines_of c.lines-lines.result.now))) c.ranges-ranges.ensures.value
     c.replaceable_in.ensures.found))

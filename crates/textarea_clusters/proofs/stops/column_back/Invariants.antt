@@ -1,7 +1,7 @@
 use Rattle.std.proofs.Common.{◌≡◌, ℕ, ◌<◌, ◌≤◌, false, true}
 use Rattle.std.specs.Str.{chars}
 use Rattle.textarea_clusters.specs.Stops.{is_column_stop}
-use Rattle.textarea_clusters.proofs.stops.stop_back.Given as goal
+use Rattle.textarea_clusters.proofs.stops.column_back.Given as goal
 
 -- the last stop is at or before this column, and it is the column if nothing that contains it begins
 -- before it
