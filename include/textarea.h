@@ -697,6 +697,15 @@ uint32_t ta_set_undo_coalescing(ta_handle_t *handle, bool joins);
  * Statuses: ok, empty handle. */
 uint32_t ta_set_undo_grouping(ta_handle_t *handle, bool groups);
 
+/** Sets whether atomic ranges are remembered for undo and redo. Then an undo of an edit, or of a
+ * group of edits, leaves exactly the ranges that were there before it, and a redo those after it:
+ * a range that was removed is there again. Where ranges were set or cleared since the edit, or
+ * this was off, they move with the text instead. Each edit takes a copy of the ranges. Off at
+ * first.
+ *
+ * Statuses: ok, empty handle. */
+uint32_t ta_set_undo_ranges(ta_handle_t *handle, bool on);
+
 /** Begins a group, if none is open, and ends a run of typing. The edits until `ta_end_undo_group`
  * are undone and redone together. If they are more than are remembered, all edits are forgotten.
  *
@@ -728,6 +737,11 @@ uint32_t ta_undo_coalescing(ta_handle_t *handle);
  *
  * Statuses: ok (true), false, empty handle. */
 uint32_t ta_undo_grouping(ta_handle_t *handle);
+
+/** Returns whether atomic ranges are remembered for undo and redo.
+ *
+ * Statuses: ok (true), false, empty handle. */
+uint32_t ta_undo_ranges(ta_handle_t *handle);
 
 /** Sets the time of the edits that follow, in nanoseconds from any fixed time. A time before the
  * last edit's counts as no pause.

@@ -274,6 +274,13 @@ static void ranges(void) {
     CHECK(has_lines(&area, " two\nthree\n"));
     CHECK(ta_delete_atomic_range_at_cursor(&area, TA_FORWARD, out) == TA_FALSE);
     CHECK(ta_delete_atomic_range_at_cursor(&area, 2, out) == TA_INVALID_ARGUMENT);
+    CHECK(ta_undo_ranges(&area) == TA_FALSE && ta_undo(&area) == TA_OK);
+    CHECK(ta_set_undo_ranges(&area, true) == TA_OK && ta_undo_ranges(&area) == TA_OK);
+    CHECK(ta_set_atomic_ranges(&area, both, 2) == TA_OK);
+    CHECK(ta_delete_atomic_range_at_cursor(&area, TA_BACKWARD, out) == TA_OK);
+    CHECK(ta_atomic_ranges(&area, out, 3, &needed) == TA_OK && needed == 1 && ta_undo(&area) == TA_OK);
+    CHECK(ta_atomic_ranges(&area, out, 3, &needed) == TA_OK && needed == 2 && ta_redo(&area) == TA_OK);
+    CHECK(ta_atomic_ranges(&area, out, 3, &needed) == TA_OK && needed == 1);
     CHECK(ta_clear_atomic_ranges(&area) == TA_OK);
     CHECK(ta_atomic_ranges(&area, out, 3, &needed) == TA_OK && needed == 0);
     ta_free(&area);

@@ -23,6 +23,7 @@ static const struct script_call script_calls[] = {
     {.name = "set_max_histories", .with_size = ta_set_max_histories},
     {.name = "set_undo_coalescing", .with_bool = ta_set_undo_coalescing},
     {.name = "set_undo_grouping", .with_bool = ta_set_undo_grouping},
+    {.name = "set_undo_ranges", .with_bool = ta_set_undo_ranges},
     {.name = "begin_undo_group", .bare = ta_begin_undo_group},
     {.name = "end_undo_group", .bare = ta_end_undo_group},
     {.name = "end_run", .bare = ta_end_run},

@@ -39,6 +39,7 @@ SETTERS = {
     "set_max_histories": ("max_histories", "usize"),
     "set_undo_coalescing": ("undo_coalescing", "bool"),
     "set_undo_grouping": ("undo_grouping", "bool"),
+    "set_undo_ranges": ("undo_ranges", "bool"),
     "set_tab_length": ("tab_length", "u8"),
     "set_hard_tab_indent": ("hard_tab_indent", "bool"),
     "set_read_only": ("read_only", "bool"),

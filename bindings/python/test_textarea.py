@@ -220,6 +220,13 @@ class Calls(unittest.TestCase):
         self.assertFalse(area.normalize_cursor_around_atomic_ranges(Side.FORWARD))
         self.assertEqual(area.delete_atomic_range_at_cursor(Side.FORWARD), (0, 0, 4))
         self.assertEqual((area.lines[0], area.atomic_ranges), (" two", [(1, 0, 5)]))
+        self.assertTrue(not area.undo_ranges and area.undo() and area.atomic_ranges == [(1, 0, 5)])
+        area.undo_ranges = True
+        self.assertTrue(area.undo_ranges and area.redo() and area.undo())
+        area.atomic_ranges = [Range(0, 0, 4)]
+        area.delete_atomic_range_at_cursor(Side.BACKWARD)
+        self.assertTrue(area.atomic_ranges == [] and area.undo() and area.atomic_ranges == [(0, 0, 4)])
+        self.assertTrue(area.redo() and area.atomic_ranges == [] and area.text == " two\nthree")
         area.clear_atomic_ranges()
         self.assertEqual(area.atomic_ranges, [])
 

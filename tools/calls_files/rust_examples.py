@@ -103,6 +103,13 @@ area.select_all();
 area.insert_char('x');
 assert!(area.undo());
 assert_eq!(area.lines(), ["one"]);"""),
+    "set_undo_ranges": ("@one two", """\
+let range = tui_textarea::AtomicRange { row: 0, start_col: 0, end_col: 4 };
+area.set_atomic_ranges([range]);
+area.set_undo_ranges(true);
+area.delete_next_char(); // removes the whole range
+assert!(area.undo());
+assert_eq!(area.atomic_ranges(), [range]);"""),
     "begin_undo_group": ("one", """\
 area.begin_undo_group();
 area.insert_str("a");
@@ -169,6 +176,7 @@ assert!(area.is_selecting());"""),
     "max_histories": ("one", "assert_eq!(area.max_histories(), 50);"),
     "undo_coalescing": ("one", "assert!(!area.undo_coalescing());"),
     "undo_grouping": ("one", "assert!(!area.undo_grouping());"),
+    "undo_ranges": ("one", "assert!(!area.undo_ranges());"),
     "read_only": ("one", "assert!(!area.read_only());"),
     "single_line": ("one", "assert!(!area.single_line());"),
     "tab_length": ("one", "assert_eq!(area.tab_length(), 4);"),

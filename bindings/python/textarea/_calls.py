@@ -219,6 +219,19 @@ class Calls(Core):
         self._call(lib.ta_set_undo_grouping, groups)
 
     @property
+    def undo_ranges(self) -> bool:
+        """Whether atomic ranges are remembered for undo and redo. Then an undo of an edit, or of a
+        group of edits, leaves exactly the ranges that were there before it, and a redo those after
+        it: a range that was removed is there again. Where ranges were set or cleared since the
+        edit, or this was off, they move with the text instead. Each edit takes a copy of the
+        ranges. Off at first."""
+        return self._call(lib.ta_undo_ranges)
+
+    @undo_ranges.setter
+    def undo_ranges(self, on: bool) -> None:
+        self._call(lib.ta_set_undo_ranges, on)
+
+    @property
     def read_only(self) -> bool:
         """Whether the text area is read only. Then no call but `set_lines` changes the text: every
         other call that edits, and an undo and a redo, changes nothing, neither what is yanked nor

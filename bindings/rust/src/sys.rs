@@ -312,12 +312,14 @@ unsafe extern "C" {
     pub fn ta_set_max_histories(handle: *mut Handle, maximum: usize) -> u32;
     pub fn ta_set_undo_coalescing(handle: *mut Handle, joins: bool) -> u32;
     pub fn ta_set_undo_grouping(handle: *mut Handle, groups: bool) -> u32;
+    pub fn ta_set_undo_ranges(handle: *mut Handle, on: bool) -> u32;
     pub fn ta_begin_undo_group(handle: *mut Handle) -> u32;
     pub fn ta_end_undo_group(handle: *mut Handle) -> u32;
     pub fn ta_end_run(handle: *mut Handle) -> u32;
     pub fn ta_max_histories(handle: *mut Handle, max_histories: *mut usize) -> u32;
     pub fn ta_undo_coalescing(handle: *mut Handle) -> u32;
     pub fn ta_undo_grouping(handle: *mut Handle) -> u32;
+    pub fn ta_undo_ranges(handle: *mut Handle) -> u32;
     pub fn ta_set_now(handle: *mut Handle, nanoseconds: u64) -> u32;
     pub fn ta_set_change_log(handle: *mut Handle, unit: u32) -> u32;
     pub fn ta_remove_change_log(handle: *mut Handle) -> u32;

@@ -305,6 +305,17 @@ fn ranges() {
     assert_eq!(area.delete_atomic_range_at_cursor(on), Some(range(0, 0, 4)));
     assert_eq!(area.lines(), [" two", "three"]);
     assert_eq!(area.atomic_ranges(), [range(1, 0, 5)]);
+    assert!(!area.undo_ranges() && area.undo());
+    assert_eq!(area.atomic_ranges(), [range(1, 0, 5)]);
+    area.set_undo_ranges(true);
+    area.set_atomic_ranges([range(0, 0, 4)]);
+    assert!(area.undo_ranges());
+    assert_eq!(area.delete_atomic_range_at_cursor(back), Some(range(0, 0, 4)));
+    assert_eq!(area.atomic_ranges(), []);
+    assert!(area.undo());
+    assert_eq!(area.atomic_ranges(), [range(0, 0, 4)]);
+    assert!(area.redo());
+    assert_eq!(area.atomic_ranges(), []);
     area.clear_atomic_ranges();
     assert_eq!(area.atomic_ranges(), []);
 }

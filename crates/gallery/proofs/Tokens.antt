@@ -1,10 +1,11 @@
 -- Mentions stay whole over inputs, and a new one covers its name.
-use Rattle.std.proofs.Common.{◌≡◌, ℕ, ◌+◌, ◌-◌, ◌<◌, ◌≤◌, ◌⊎◌, ◌&&◌, inl, inr, Bool, true, false, not, Option, None, Some, is_some, cond, Bor, IsAscii, List, [], ◌∷◌, ◌++◌, length, take, drop, refl, sym, ap, ◌∙◌, subst, arith, rules}
+use Rattle.std.proofs.Common.{◌≡◌, ℕ, ◌+◌, ◌-◌, ◌<◌, ◌≤◌, ◌&&◌, Bool, true, false, not, Option, None, Some, is_some, cond, Bor, IsAscii, List, [], ◌∷◌, ◌++◌, length, map, get_or, take, drop, refl, sym, ap, ◌∙◌, subst, arith, rules}
 use Rattle.std.specs.Prelude.{All, Contains, Result, Ok, Err, IfOk, OnOk, OnErr}
 use Rattle.std.specs.Str.{chars}
 use Rattle.std.proofs.lemmas.Bool.{and_parts, not-true}
 use Rattle.std.proofs.lemmas.Str.{chars-IsAscii}
-use Rattle.std.proofs.lemmas.List.Elements.{All-contains, All-from_recursion, recursion_from_All, All-push}
+use Rattle.std.proofs.lemmas.List.{append-nil}
+use Rattle.std.proofs.lemmas.List.Elements.{All-contains, All-from_recursion, recursion_from_All, All-push, Contains-append_left, Contains-get_or}
 use Rattle.textarea_data.specs.declared.range.AtomicRange.{AtomicRange}
 use Rattle.textarea_screen.specs.declared.screen.rect.Rect.{Rect}
 use Rattle.textarea_text.specs.Fragment.{fragment_symbols}
@@ -17,17 +18,13 @@ use Rattle.textarea_text.proofs.TextPlaces.{place_of-index}
 use Rattle.textarea_ranges.specs.Lookup.{range_start}
 use Rattle.textarea_ranges.specs.Moved.{covered_characters}
 use Rattle.textarea_ranges.proofs.Moving.{occurs}
+use Rattle.textarea_ranges.specs.Order.{in_order}
 use Rattle.textarea_ranges.proofs.OrderLemmas.{each-in_order}
-use Rattle.textarea_calls.specs.declared.action.Action.{Action}
-use Rattle.textarea_calls.specs.declared.action.Action.TheVariants as action
 use Rattle.textarea_document.specs.DocumentState.{DocumentState}
 use Rattle.textarea_document.specs.Edits.{Insert, Remove, between_removed, insertion, insertion_place, splice_of_step}
-use Rattle.textarea_document.specs.RangesOverSplices.{RangesFollowSplices, RangesStayWhole}
+use Rattle.textarea_document.specs.Covered.{CoversNoMore, covered, covered_in, covered_past}
 use Rattle.textarea_document.specs.Selection.{is_selected, selection_end, selection_start}
-use Rattle.textarea_document.specs.Sound.{IsSound}
-use Rattle.textarea_document.specs.Splices.{selected_splices}
-use Rattle.textarea_document.proofs.RangesOverSplices.{all_stem}
-use Rattle.tui_textarea.specs.CallSplices.{OfSplicesOutOfMemory}
+use Rattle.textarea_document.proofs.Covering.{found_in, map_has}
 use Rattle.tui_textarea.specs.Drawing.{IsRendered}
 use Rattle.tui_textarea.specs.DrawnFrame.{WidgetState}
 use Rattle.tui_textarea.specs.Edits.{str_inserted}
@@ -35,7 +32,6 @@ use Rattle.tui_textarea.specs.Fitting.{fitting_beside}
 use Rattle.tui_textarea.specs.Grouping.{call_begun}
 use Rattle.tui_textarea.specs.Guards.{admitted, admitted_over_selection}
 use Rattle.tui_textarea.specs.Ranges.{ranges_accepted}
-use Rattle.tui_textarea.specs.RangesOverActions.{RangesFollowAction}
 use Rattle.tui_textarea.specs.Selection.{unselected}
 use Rattle.tui_textarea.specs.Splices.{str_splices}
 use Rattle.tui_textarea.specs.State.{State}
@@ -47,28 +43,10 @@ use Rattle.gallery.specs.Mentions.{AreWhole, names}
 abbrev pub at : {X : Type 0} → X → Bor X
 at x = record { ref_ptr = (0, 0); now = x }
 
--- ---- ranges that move with the text
+-- ---- what ranges cover
 
-pub whole_over : (old new : State) (splices : List Splice) → IsSound old.document → RangesFollowSplices old.document splices new.document → AreWhole old → AreWhole new
-whole_over old new splices sound follow whole k d within =
-    let stem = all_stem old.document new.document splices sound follow k d within in
-    subst (Contains names) (sym stem.covers.same)
-    (All-contains (λ (range : AtomicRange). Contains names (covered_characters (lines old.document.text) range)) old.document.ranges stem.origin whole stem.stored)
-
-follows_action : (asked : Action) (old new : DocumentState) (splices : List Splice) → RangesFollowAction asked old splices new → RangesFollowSplices old splices new
-follows_action action.Undo old new splices h = h
-follows_action action.Redo old new splices h = h
-follows_action asked old new splices h = h.0
-
--- after an input with this action
-pub whole_after : (asked : Action) (old new : State) (splices : List Splice) → IsSound old.document → RangesFollowAction asked old.document splices new.document → AreWhole old → AreWhole new
-whole_after asked old new splices sound follow whole =
-    whole_over old new splices sound (follows_action asked old.document new.document splices follow) whole
-
--- after a call that ran out of memory
-pub whole_out_of_memory : (old new : State) → IsSound old.document → OfSplicesOutOfMemory old (λ splices. RangesStayWhole old.document splices new.document) → AreWhole old → AreWhole new
-whole_out_of_memory old new sound (inl left) whole = whole_over old new [] sound left.0 whole
-whole_out_of_memory old new sound (inr left) whole = whole_over old new (selected_splices old.document) sound left.0 whole
+pub whole_over : (old new : State) → CoversNoMore old.document new.document → AreWhole old → AreWhole new
+whole_over old new covers whole = λ characters stored. whole characters (covers characters stored)
 
 -- ---- a new mention
 
@@ -170,9 +148,18 @@ covers_mention old mid name range named inserted can row column start =
 -- the name's range is added to the others
 pub whole_with : (state : State) (range : AtomicRange) → AreWhole state → Contains names (covered_characters (lines state.document.text) range) →
     AreWhole (ranges_accepted state (state.document.ranges ++ range ∷ []))
-whole_with state range whole named =
-    let Named = λ (other : AtomicRange). Contains names (covered_characters (lines state.document.text) other) in
-    All-from_recursion Named _ (each-in_order Named _ (recursion_from_All Named _ (All-push Named state.document.ranges range whole named)))
+whole_with state range whole named characters stored =
+    let text = state.document.text in
+    let cover = covered_characters (lines text) in
+    let ranges = state.document.ranges in
+    let Named = λ (other : AtomicRange). Contains names (cover other) in
+    let each : All Named ranges =
+    λ k d within. whole (cover (get_or ranges k d))
+    (Contains-append_left (covered_in text ranges) (covered_past state.document) (cover (get_or ranges k d)) (map_has cover ranges (get_or ranges k d) (Contains-get_or ranges k d within))) in
+    let all : All Named (in_order (ranges ++ range ∷ [])) = All-from_recursion Named _ (each-in_order Named _ (recursion_from_All Named _ (All-push Named ranges range each named))) in
+    let here : Contains (map cover (in_order (ranges ++ range ∷ []))) characters = subst (λ (l : List (List ℕ)). Contains l characters) (append-nil (map cover (in_order (ranges ++ range ∷ [])))) stored in
+    let found = found_in cover (in_order (ranges ++ range ∷ [])) characters here in
+    subst (Contains names) found.2 (All-contains Named (in_order (ranges ++ range ∷ [])) found.0 all found.1)
 
 -- ---- the ends of calls
 
@@ -191,7 +178,7 @@ whole_if_set (Err error) old new ranges set rejected err whole accepted = subst 
 -- ---- a drawing
 
 abbrev WholeIn : DocumentState → Type 0
-WholeIn document = All (λ (range : AtomicRange). Contains names (covered_characters (lines document.text) range)) document.ranges
+WholeIn document = (characters : List ℕ) → Contains (covered document) characters → Contains names characters
 
 pub whole_same : (old new : State) → new.document ≡ old.document → AreWhole old → AreWhole new
 whole_same old new same whole = subst WholeIn (sym same) whole

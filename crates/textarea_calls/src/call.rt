@@ -81,6 +81,8 @@ pub enum Call<'a> {
     SetUndoCoalescing(bool),
     /// `TextArea::set_undo_grouping`
     SetUndoGrouping(bool),
+    /// `TextArea::set_undo_ranges`
+    SetUndoRanges(bool),
     /// `TextArea::begin_undo_group`
     BeginUndoGroup,
     /// `TextArea::end_undo_group`
@@ -236,6 +238,8 @@ pub enum Call<'a> {
     UndoCoalescing,
     /// `TextArea::undo_grouping`
     UndoGrouping,
+    /// `TextArea::undo_ranges`
+    UndoRanges,
     /// `TextArea::read_only`
     ReadOnly,
     /// `TextArea::single_line`

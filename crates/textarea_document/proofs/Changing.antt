@@ -7,8 +7,9 @@ use Rattle.std.proofs.lemmas.Str.{len_utf8_bounds}
 use Rattle.textarea_text.specs.Place.{changed}
 use Rattle.textarea_document.specs.Changes.{changed_by, column_from, width_in}
 use Rattle.textarea_document.specs.Prelude.{Symbol, joined, lines, Place, IsPlace, end, index_of, line_of, Fits, Splice, applied, inverse, times, Log, undone_log, redone_log, newest, next}
-use Rattle.textarea_document.specs.Prelude.{ChangeUnit, Characters, Bytes, Utf16, ChangeView, LoggedChanges, ChangesLead, change_of, changed_by_all, line_changes, place_from_unit, place_in_unit, splice_changes, unit_count, whole_change, with_more}
-use Rattle.textarea_document.specs.Prelude.{DocumentState, after_change, after_redo_by, after_undo_by, changes_taken, edit_redone, edit_undone, lines_replaced, with_changes_after, IsSoundInside}
+use Rattle.textarea_document.specs.Prelude.{ChangeUnit, Characters, Bytes, Utf16, ChangeView, LoggedChanges, ChangesLead, change_of, changed_by_all, line_changes, place_from_unit, place_in_unit}
+use Rattle.textarea_document.specs.Prelude.{splice_changes, unit_count, whole_change, with_more}
+use Rattle.textarea_document.specs.Prelude.{AtomicRange, PastRanges, DocumentState, after_change, after_redo_by, after_undo_by, changes_taken, edit_redone, edit_undone, lines_replaced, with_changes_after, IsSoundInside}
 use Rattle.textarea_text.proofs.TextPlaces.{IsPlace-end, index_of-end, joined-lines}
 use Rattle.textarea_text.proofs.StringRows.{changed_by_none, occurs_until}
 use Rattle.textarea_document.proofs.Sounds.{inside_redone, inside_undone, inside_times, newest_fits, next_fits, start_is_place}
@@ -98,8 +99,9 @@ none_once : (unit : Option ChangeUnit) (text : List Symbol) (splice : Splice) �
 none_once None text splice = refl
 none_once (Some unit) text splice = tt
 
-pub change_leads : (document : DocumentState) (splice : Splice) (log : Log) → Fits document.text splice → ChangesLead document (after_change document splice log)
-change_leads document splice log fits = record {
+pub change_leads : (document : DocumentState) (splice : Splice) (log : Log) (ranges : List AtomicRange) (past : PastRanges) → Fits document.text splice →
+    ChangesLead document (record (after_change document splice log) { ranges = ranges; past_ranges = past })
+change_leads document splice log ranges past fits = record {
   more = splice_changes document.changes.unit document.text splice;
   changes = refl;
   leads = leads_once document.changes.unit document.text splice fits;
@@ -166,14 +168,14 @@ undone_leads document h = by (newest document.log) refl
   where
     by : (found : Option Splice) → newest document.log ≡ found → ChangesLead document (after_undo_by found document)
     by None e = no_change_leads document document refl refl
-    by (Some splice) e = change_leads document (inverse splice) (undone_log document.log splice) (newest_fits document splice h.log e)
+    by (Some splice) e = change_leads document (inverse splice) (undone_log document.log splice) (after_undo_by (Some splice) document).ranges document.past_ranges (newest_fits document splice h.log e)
 
 redone_leads : (document : DocumentState) → IsSoundInside document → ChangesLead document (edit_redone document)
 redone_leads document h = by (next document.log) refl
   where
     by : (found : Option Splice) → next document.log ≡ found → ChangesLead document (after_redo_by found document)
     by None e = no_change_leads document document refl refl
-    by (Some splice) e = change_leads document splice (redone_log document.log splice) (next_fits document splice h.log e)
+    by (Some splice) e = change_leads document splice (redone_log document.log splice) (after_redo_by (Some splice) document).ranges document.past_ranges (next_fits document splice h.log e)
 
 pub undos_lead : (count : ℕ) (document : DocumentState) → IsSoundInside document → ChangesLead document (times count edit_undone document)
 undos_lead zero document h = no_change_leads document document refl refl
@@ -194,10 +196,10 @@ abbrev StepsAfter : (DocumentState → DocumentState) → LoggedChanges → Docu
 StepsAfter step before document =
     (step (with_changes_after before document) ≡ with_changes_after before (step document)) × ((step document).changes.unit ≡ before.unit)
 
-changed_after : (before : LoggedChanges) (document : DocumentState) (splice : Splice) (log : Log) → document.changes.unit ≡ before.unit →
-    after_change (with_changes_after before document) splice log ≡ with_changes_after before (after_change document splice log)
-changed_after before document splice log same =
-    ap (λ (made : List ChangeView). record (after_change document splice log) { changes = record before { made = made } })
+changed_after : (before : LoggedChanges) (document : DocumentState) (splice : Splice) (log : Log) (ranges : List AtomicRange) → document.changes.unit ≡ before.unit →
+    record (after_change (with_changes_after before document) splice log) { ranges = ranges } ≡ with_changes_after before (record (after_change document splice log) { ranges = ranges })
+changed_after before document splice log ranges same =
+    ap (λ (made : List ChangeView). record (after_change document splice log) { ranges = ranges; changes = record before { made = made } })
     (append_assoc before.made document.changes.made (splice_changes before.unit document.text splice)
     ∙ ap (λ (unit : Option ChangeUnit). before.made ++ (document.changes.made ++ splice_changes unit document.text splice)) (sym same))
 
@@ -206,14 +208,14 @@ undone_after before document same = by (newest document.log)
   where
     by : (found : Option Splice) → StepsAfter (after_undo_by found) before document
     by None = (refl, same)
-    by (Some splice) = (changed_after before document (inverse splice) (undone_log document.log splice) same, same)
+    by (Some splice) = (changed_after before document (inverse splice) (undone_log document.log splice) (after_undo_by (Some splice) document).ranges same, same)
 
 redone_after : (before : LoggedChanges) (document : DocumentState) → document.changes.unit ≡ before.unit → StepsAfter edit_redone before document
 redone_after before document same = by (next document.log)
   where
     by : (found : Option Splice) → StepsAfter (after_redo_by found) before document
     by None = (refl, same)
-    by (Some splice) = (changed_after before document splice (redone_log document.log splice) same, same)
+    by (Some splice) = (changed_after before document splice (redone_log document.log splice) (after_redo_by (Some splice) document).ranges same, same)
 
 times_after : (step : DocumentState → DocumentState) → ((before : LoggedChanges) (document : DocumentState) → document.changes.unit ≡ before.unit → StepsAfter step before document) →
     (count : ℕ) (before : LoggedChanges) (document : DocumentState) → document.changes.unit ≡ before.unit → StepsAfter (times count step) before document

@@ -20,7 +20,7 @@ step_wraps cut document step typed now sound made = cut (text_and_layout documen
 
 -- the edits are undone or redone one after another
 wraps_on : SplicesWrap → GoesOn SplicedBy
-wraps_on cut document splice log rest new fits later = (text_and_layout (after_change document splice log), cut (text_and_layout document) splice fits, later)
+wraps_on cut document splice log ranges rest new fits moved later = (text_and_layout (after_change document splice log), cut (text_and_layout document) splice fits, later)
 
 pub undo_wraps : SplicesWrap → (document : DocumentState) → IsSound document → SplicedBy document (undo_splices document) (after_undo document)
 undo_wraps cut document h = over_undos SplicedBy (λ d. refl) (wraps_on cut) (newest_group document.log) document (sound_inside document h)

@@ -161,6 +161,7 @@ sound_duplicated document now h =
       bounded = edited.bounded;
       marks = edited.marks;
       whole = edited.whole;
+      past = edited.past;
     }
 
 -- its splice splits no range

@@ -10,6 +10,7 @@ pub mod IndentedTexts
 pub mod MovedLines
 pub mod Betweens
 pub mod Ranges
+pub mod PastRanges
 pub mod Sounds
 pub mod Changing
 mod ChangeLogs
@@ -17,5 +18,7 @@ mod UnitCounts
 pub mod StepLaw
 pub mod DocumentWraps
 pub mod RangesOverSplices
+pub mod Covering
+mod GivenBack
 pub mod Steps
 pub mod RowLemmas

@@ -4,8 +4,8 @@ use Rattle.std.proofs.lemmas.List.Elements.{All-cons, All-contains, All-nil, Con
 use Rattle.textarea_document.specs.Prelude.{newest_group, next_group, redo_splices, undo_splices, cons_option, Symbol, lines, Place, end, CanApply}
 use Rattle.textarea_document.specs.Prelude.{Fits, Splice, IsTextBefore, applied, applied_all, AtomicRange, IsBeside, IsInside, TakesRange, CoversTheSame, DisturbsBy}
 use Rattle.textarea_document.specs.Prelude.{moved_range, moved_ranges, AreValid, IsRangeOfLine, HasEffect, EditStep, splice_of_step, stepped, AllStayOrAreDropped, AllStemFrom, SplitNoRange}
-use Rattle.textarea_document.specs.Prelude.{RangesFollowSplices, RangesStayWhole, IsDroppedBy, StemsFrom, carried_range, ranges_over, SplitsNoRange, SplitsNoRangeBy, after_redo}
-use Rattle.textarea_document.specs.Prelude.{after_undo, IsSound, DocumentState, after_change, after_edit}
+use Rattle.textarea_document.specs.Prelude.{RangesFollowPast, RangesFollowSplices, RangesStayWhole, IsDroppedBy, StemsFrom, carried_range, ranges_over, SplitsNoRange, SplitsNoRangeBy, after_redo}
+use Rattle.textarea_document.specs.Prelude.{after_undo, IsSound, DocumentState, after_edit}
 use Rattle.textarea_ranges.proofs.Moving.{covers_the_same, dropped, valid_moved}
 use Rattle.textarea_document.proofs.Sounds.{sound_inside}
 use Rattle.textarea_document.proofs.UndoGroups.{GoesOn, over_redos, over_undos}
@@ -71,26 +71,31 @@ ranges_stay_on old between new first second h k = (
 
 -- ---- undo and redo
 
-nothing_follows : (document : DocumentState) → RangesFollowSplices document [] document
-nothing_follows document = (stays document document refl refl).0
+nothing_follows : (document : DocumentState) → RangesFollowPast document [] document
+nothing_follows document = record { text = record { can = tt; leads = refl }; ranges = λ none. refl }
 
-more_follow : GoesOn RangesFollowSplices
-more_follow document splice log rest new fits later =
-    let first = after_change document splice log in
-    ranges_follow_on document first new (splice ∷ []) rest (one document splice first fits refl refl) later
+more_follow : GoesOn RangesFollowPast
+more_follow document splice log ranges rest new fits moved later = record {
+  text = record { can = (fits, later.text.can); leads = later.text.leads };
+  ranges = λ none. later.ranges none ∙ ap (λ (r : List AtomicRange). ranges_over r rest) (moved none);
+}
 
-pub ranges_follow_undo : (document : DocumentState) → IsSound document → RangesFollowSplices document (undo_splices document) (after_undo document)
-ranges_follow_undo document h = over_undos RangesFollowSplices nothing_follows more_follow (newest_group document.log) document (sound_inside document h)
+pub ranges_follow_undo : (document : DocumentState) → IsSound document → RangesFollowPast document (undo_splices document) (after_undo document)
+ranges_follow_undo document h = over_undos RangesFollowPast nothing_follows more_follow (newest_group document.log) document (sound_inside document h)
 
-pub ranges_follow_redo : (document : DocumentState) → IsSound document → RangesFollowSplices document (redo_splices document) (after_redo document)
-ranges_follow_redo document h = over_redos RangesFollowSplices nothing_follows more_follow (next_group document.log) document (sound_inside document h)
+pub ranges_follow_redo : (document : DocumentState) → IsSound document → RangesFollowPast document (redo_splices document) (after_redo document)
+ranges_follow_redo document h = over_redos RangesFollowPast nothing_follows more_follow (next_group document.log) document (sound_inside document h)
+
+-- if no ranges are remembered, they follow as over other splices
+pub follows_unless_remembered : (old new : DocumentState) (splices : List Splice) → old.past_ranges.before ≡ [] → RangesFollowPast old splices new → RangesFollowSplices old splices new
+follows_unless_remembered old new splices none h = record { text = h.text; ranges = h.ranges none }
 
 -- ---- each range comes from an old one
 
-record From {X Y : Type 0} (f : X → Option Y) (xs : List X) (y : Y) : Type 0 where
-  x : X
-  stored : Contains xs x
-  is : f x ≡ Some y
+pub record From {X Y : Type 0} (f : X → Option Y) (xs : List X) (y : Y) : Type 0 where
+  pub x : X
+  pub stored : Contains xs x
+  pub is : f x ≡ Some y
 
 from_rest : {X Y : Type 0} (f : X → Option Y) (first : X) (xs : List X) (y : Y) → From f xs y → From f (first ∷ xs) y
 from_rest f first xs y found = record { x = found.x; stored = (suc found.stored.0, suc-le-suc found.stored.1, found.stored.2); is = found.is }
@@ -105,7 +110,7 @@ from_list : {X Y : Type 0} (f : X → Option Y) (xs : List X) (y : Y) → Contai
 from_list f [] y h = absurd (omega (arith, h.1))
 from_list f (x ∷ xs) y h = from_cons f x xs y (f x) refl (from_list f xs y) h
 
-from_moved : (ranges : List AtomicRange) (splice : Splice) (range : AtomicRange) → Contains (moved_ranges ranges splice) range → From (moved_range splice) ranges range
+pub from_moved : (ranges : List AtomicRange) (splice : Splice) (range : AtomicRange) → Contains (moved_ranges ranges splice) range → From (moved_range splice) ranges range
 unfolding moved_ranges
 from_moved ranges splice range h = from_list (moved_range splice) ranges range h
 

@@ -2,7 +2,7 @@
 use Rattle.std.proofs.Common.{◌≡◌, ◌∙◌, ℕ, zero, suc, ◌+◌, ◌-◌, ◌≤◌, ◌<◌, Bool, false, List, [], ◌∷◌, length, map, reverse, take, drop, get_or, Option, Some, None, slice_get, is_some, true, sym, ap, refl, subst, arith}
 use Rattle.std.proofs.lemmas.List.{drop_all, length-append, length-drop, length-take-le, nil_from_length}
 use Rattle.textarea_document.specs.Prelude.{Splice, DocumentState, after_redo, after_redo_by, after_undo, after_undo_by, edit_redone, edit_undone, group_count, grouped_before, grouped_first}
-use Rattle.textarea_document.specs.Prelude.{is_grouped, newest, newest_group, next, next_group, times, IsSound, IsSoundInside, Fits, Log, after_change, inverse, redone_log, undone_log}
+use Rattle.textarea_document.specs.Prelude.{AtomicRange, moved_ranges, ranges_or, is_grouped, newest, newest_group, next, next_group, times, IsSound, IsSoundInside, Fits, Log, after_change, inverse, redone_log, undone_log}
 use Rattle.textarea_history.proofs.Groups.{before_within, first_ends, first_none, first_within, group_again, group_begins, group_less}
 use Rattle.textarea_history.proofs.LogLaws.{first_split, newest_some, reverse_last, times-front}
 use Rattle.textarea_document.proofs.Sounds.{inside_redone, inside_times, inside_undone, newest_fits, next_fits, sound_inside, sound_whole}
@@ -234,7 +234,8 @@ next_of_several document sound several = by document.log.undone refl
 
 abbrev pub GoesOn : (DocumentState → List Splice → DocumentState → Type 0) → Type 0
 GoesOn Leads =
-    (document : DocumentState) (splice : Splice) (log : Log) (rest : List Splice) (new : DocumentState) → Fits document.text splice → Leads (after_change document splice log) rest new → Leads document (splice ∷ rest) new
+    (document : DocumentState) (splice : Splice) (log : Log) (ranges : List AtomicRange) (rest : List Splice) (new : DocumentState) → Fits document.text splice →
+    (document.past_ranges.before ≡ [] → ranges ≡ moved_ranges document.ranges splice) → Leads (record (after_change document splice log) { ranges = ranges }) rest new → Leads document (splice ∷ rest) new
 
 pub over_undos : (Leads : DocumentState → List Splice → DocumentState → Type 0) → ((document : DocumentState) → Leads document [] document) → GoesOn Leads → (count : ℕ) (document : DocumentState) →
     IsSoundInside document → Leads document (map inverse (take count (reverse document.log.done))) (times count edit_undone document)
@@ -254,7 +255,8 @@ over_undos Leads nothing more (suc count) document h = by (newest document.log) 
         let rest = map inverse (take count (reverse first.log.done)) in
         subst (λ (d : List Splice). Leads document (map inverse (take (suc count) d)) (times (suc count) edit_undone document)) (sym (reverse_last document.log.done splice e))
         (subst (Leads document (inverse splice ∷ rest)) (sym (times-front count edit_undone document ∙ ap (times count edit_undone) is))
-        (more document (inverse splice) (undone_log document.log splice) rest (times count edit_undone first) (newest_fits document splice h.log e)
+        (more document (inverse splice) (undone_log document.log splice) first.ranges rest (times count edit_undone first) (newest_fits document splice h.log e)
+        (λ none. ap (λ (before : List (List AtomicRange)). ranges_or (slice_get before (length document.log.undone)) (moved_ranges document.ranges (inverse splice))) none)
         (later first (subst IsSoundInside is (inside_undone document h)))))
 
 pub over_redos : (Leads : DocumentState → List Splice → DocumentState → Type 0) → ((document : DocumentState) → Leads document [] document) → GoesOn Leads → (count : ℕ) (document : DocumentState) →
@@ -275,5 +277,6 @@ over_redos Leads nothing more (suc count) document h = by (next document.log) re
         let rest = take count first.log.undone in
         subst (λ (d : List Splice). Leads document (take (suc count) d) (times (suc count) edit_redone document)) (sym (first_split document.log.undone splice e))
         (subst (Leads document (splice ∷ rest)) (sym (times-front count edit_redone document ∙ ap (times count edit_redone) is))
-        (more document splice (redone_log document.log splice) rest (times count edit_redone first) (next_fits document splice h.log e)
+        (more document splice (redone_log document.log splice) first.ranges rest (times count edit_redone first) (next_fits document splice h.log e)
+        (λ none. ap (λ (before : List (List AtomicRange)). moved_ranges (ranges_or (slice_get before (length document.log.undone - 1)) document.ranges) splice) none)
         (later first (subst IsSoundInside is (inside_redone document h)))))

@@ -1,7 +1,8 @@
 -- The laws of both lists of edits, and of undos and redos one after another.
-use Rattle.std.specs.Prelude.{◌≡◌, ℕ, ◌-◌, ◌<◌, length, drop, reverse, IfSome}
-use Rattle.textarea_text.specs.Splice.{CanApply, CanUndo, IsTextBefore, place_after}
-use Rattle.textarea_history.specs.Log.{done_groups, newest}
+use Rattle.std.specs.Prelude.{◌≡◌, ℕ, ◌+◌, ◌-◌, ◌<◌, Bool, true, false, List, Option, length, drop, reverse, slice_get, IfSome}
+use Rattle.textarea_data.specs.declared.range.AtomicRange.{AtomicRange}
+use Rattle.textarea_text.specs.Splice.{CanApply, CanUndo, IsTextBefore, Splice, place_after}
+use Rattle.textarea_history.specs.Log.{done_groups, joins, newest, newest_group, recorded}
 use Rattle.textarea_history.specs.HistoryLaw.{IsSame, times}
 use Rattle.textarea_document.specs.DocumentState.{DocumentState, logged}
 use Rattle.textarea_document.specs.Outcomes.{after_redo, after_undo}
@@ -28,3 +29,14 @@ pub record RestoresDocument (document : DocumentState) (count : ℕ) : Type 0 wh
 pub record RestoresAll (document : DocumentState) : Type 0 where
   pub same : IsSame (logged (after_redo (after_undo document))) (logged document)
   pub cursor : (after_redo (after_undo document)).cursor ≡ document.cursor
+
+-- the ranges before the oldest edit of the newest group, if they are remembered
+abbrev pub ranges_before_group : DocumentState → Option (List AtomicRange)
+ranges_before_group document =
+    slice_get document.past_ranges.before (length document.log.undone + (newest_group document.log - 1))
+
+-- the ranges before this edit are remembered: they are to be, it joins no other, and it is recorded
+pub record RemembersBefore (document : DocumentState) (splice : Splice) (typed : Bool) (now : ℕ) : Type 0 where
+  pub on : document.past_ranges.on ≡ true
+  pub apart : joins document.log splice typed now ≡ false
+  pub some : 0 < length (recorded document.log splice typed now).done

@@ -1,3 +1,5 @@
+pub mod PastRanges
+pub mod RangeHistory
 pub mod Changes
 pub mod ChangeLog
 pub mod DocumentState
@@ -11,6 +13,7 @@ pub mod DocumentLaw
 pub mod Sound
 pub mod ChangesLead
 pub mod RangesOverSplices
+pub mod Covered
 pub mod Splices
 pub mod Replacing
 pub mod ReplacedText

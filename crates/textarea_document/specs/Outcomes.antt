@@ -9,6 +9,7 @@ use Rattle.textarea_history.specs.Log.{Log, recorded, newest, newest_group, next
 use Rattle.textarea_ranges.specs.Moved.{moved_ranges}
 use Rattle.textarea_document.specs.Changes.{with_splice}
 use Rattle.textarea_document.specs.DocumentState.{DocumentState}
+use Rattle.textarea_document.specs.PastRanges.{PastRanges, ranges_before_newest, ranges_before_next, ranges_or, ranges_to_remember, with_newest}
 
 -- the layout of the text after a splice: the lines that it touches are wrapped, each once, and all
 -- others keep their rows; all lines are wrapped if their number changes how lines wrap
@@ -27,19 +28,33 @@ after_change document splice log = record {
   ranges = moved_ranges document.ranges splice;
   log = log;
   changes = with_splice document.changes document.text splice;
+  past_ranges = document.past_ranges;
 }
 
--- an edit is made and recorded, as typed or not, at this time
+-- the remembered ranges after this edit
+abbrev pub past_ranges_after : DocumentState → Splice → Bool → ℕ → PastRanges
+past_ranges_after document splice typed now =
+    with_newest document.past_ranges
+    (ranges_to_remember document.past_ranges document.ranges document.log splice typed now)
+    (length document.log.undone) (length (recorded document.log splice typed now).done)
+
+-- an edit is made and recorded, as typed or not, at this time; if ranges are remembered, those before
+-- it are, unless it joins the newest edit
 abbrev pub after_edit : DocumentState → Splice → Bool → ℕ → DocumentState
 after_edit document splice typed now =
-    after_change document splice (recorded document.log splice typed now)
+    record (after_change document splice (recorded document.log splice typed now)) {
+      past_ranges = past_ranges_after document splice typed now;
+    }
 
 -- the newest edit is undone, if there is one: the cursor is after the restored text, or where it
--- removed text
+-- removed text. The ranges are those before the edit, if they are remembered; else they move
 abbrev pub after_undo_by : Option Splice → DocumentState → DocumentState
 after_undo_by None document = document
 after_undo_by (Some splice) document =
-    after_change document (inverse splice) (undone_log document.log splice)
+    record (after_change document (inverse splice) (undone_log document.log splice)) {
+      ranges = ranges_or (ranges_before_newest document.past_ranges document.log)
+          (moved_ranges document.ranges (inverse splice));
+    }
 
 abbrev pub edit_undone : DocumentState → DocumentState
 edit_undone document = after_undo_by (newest document.log) document
@@ -48,10 +63,15 @@ edit_undone document = after_undo_by (newest document.log) document
 abbrev pub after_undo : DocumentState → DocumentState
 after_undo document = times (newest_group document.log) edit_undone document
 
--- the edit that was undone last is redone, if there is one: the cursor is where it left it
+-- the edit that was undone last is redone, if there is one: the cursor is where it left it. The
+-- ranges before the edit, if they are remembered, move with the text, or else those that are there
 abbrev pub after_redo_by : Option Splice → DocumentState → DocumentState
 after_redo_by None document = document
-after_redo_by (Some splice) document = after_change document splice (redone_log document.log splice)
+after_redo_by (Some splice) document =
+    record (after_change document splice (redone_log document.log splice)) {
+      ranges = moved_ranges
+          (ranges_or (ranges_before_next document.past_ranges document.log) document.ranges) splice;
+    }
 
 abbrev pub edit_redone : DocumentState → DocumentState
 edit_redone document = after_redo_by (next document.log) document

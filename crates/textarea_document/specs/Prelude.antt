@@ -47,16 +47,19 @@ pub use Rattle.textarea_document.specs.Edits.{character_inserted, cursor_index, 
 pub use Rattle.textarea_document.specs.Edits.{has_symbols, nothing_inserted, removal, splice_of_step, stepped, symbol_removal, symbol_removed_before, symbol_removed_after, symbols_inserted}
 pub use Rattle.textarea_document.specs.Edits.{removed_symbols}
 unfoldable pub use Rattle.textarea_document.specs.Edits.{between_removed, removed_before, removed_after}
-pub use Rattle.textarea_document.specs.RangesOverSplices.{AllStayOrAreDropped, AllStemFrom, SplitNoRange, RangesFollowSplices, RangesStayWhole, IsDroppedBy, StemsFrom, carried_range, ranges_over}
-pub use Rattle.textarea_document.specs.DocumentLaw.{RestoresAll, RestoresDocument, ListsFit}
-pub use Rattle.textarea_document.specs.Outcomes.{after_change, after_edit, after_move, after_redo, after_redo_by, edit_redone, edit_undone, run_ended, unanchored, after_undo, after_undo_by}
+pub use Rattle.textarea_document.specs.RangesOverSplices.{AllStayOrAreDropped, AllStemFrom, SplitNoRange, RangesFollowPast, RangesFollowSplices, RangesStayWhole, IsDroppedBy, StemsFrom, carried_range, ranges_over}
+pub use Rattle.textarea_document.specs.Covered.{CoversNoMore}
+pub use Rattle.textarea_document.specs.DocumentLaw.{RemembersBefore, RestoresAll, RestoresDocument, ListsFit, ranges_before_group}
+pub use Rattle.textarea_document.specs.Outcomes.{after_change, after_edit, after_move, after_redo, after_redo_by, edit_redone, edit_undone, past_ranges_after, run_ended, unanchored, after_undo, after_undo_by}
 pub use Rattle.textarea_document.specs.Ranges.{SplitsNoRange, SplitsNoRangeBy, accepted, anchor_out, anchored, with_ranges, normalized, range_removed, ranges_forgotten, unless_empty}
 pub use Rattle.textarea_document.specs.DocumentRows.{text_and_layout, with_inner_width, with_layout_settings}
 unfoldable pub use Rattle.textarea_document.specs.DocumentRows.{HasRowsAt, IsAboveCursor, IsBelowCursor}
 pub use Rattle.textarea_document.specs.Selection.{is_selected, selected_removed, selected_symbols, selection, selection_end, selection_start}
 pub use Rattle.textarea_document.specs.ChangesLead.{ChangesLead}
 pub use Rattle.textarea_document.specs.Sound.{IsSound, IsSoundInside}
-pub use Rattle.textarea_document.specs.DocumentState.{DocumentState, changes_taken, document_of, fresh_document, lines_replaced, logged, new_document, with_changes_after}
+pub use Rattle.textarea_document.specs.PastRanges.{AllBefore, ArePastRanges, IsValidList, PastRanges, no_past_ranges, past_ranges_set, ranges_before_newest, ranges_before_next, ranges_or, ranges_to_remember}
+pub use Rattle.textarea_document.specs.PastRanges.{texts_ahead, texts_back, texts_before, with_newest}
+pub use Rattle.textarea_document.specs.DocumentState.{DocumentState, changes_taken, document_of, fresh_document, history_forgotten, lines_replaced, logged, undo_ranges_set, new_document, with_changes_after}
 pub use Rattle.textarea_document.specs.Changes.{ChangeView, LoggedChanges, change_of, change_view, changed_by_all, inserted_lines, line_changes, no_changes, place_from_unit, place_in_unit, splice_changes}
 pub use Rattle.textarea_document.specs.Changes.{splices_changes, unit_count, whole_change, with_more, with_splice}
 unfoldable pub use Rattle.textarea_document.specs.Changes.{changed_by}

@@ -10,6 +10,7 @@ use Rattle.textarea_data.specs.declared.range.AtomicCursorBias.TheVariants.{Back
 use Rattle.textarea_ranges.specs.Lookup.{IsInside, TakesWhole, moved_out, range_start, range_end}
 use Rattle.textarea_ranges.specs.Order.{in_order}
 use Rattle.textarea_document.specs.DocumentState.{DocumentState}
+use Rattle.textarea_document.specs.PastRanges.{no_past_ranges}
 use Rattle.textarea_document.specs.Edits.{between_removed}
 
 -- a splice splits no range: it inserts strictly inside none, or removes each completely or not at
@@ -32,7 +33,7 @@ abbrev pub anchor_out : List AtomicRange → Option Place → Option Place
 anchor_out ranges anchor = option_map (λ place. moved_out ranges place Backward) anchor
 
 -- the ranges are replaced: a cursor strictly inside one moves to its end, such an anchor to its
--- start, and a selection that is empty after that is dropped
+-- start, and a selection that is empty after that is dropped; none are remembered from before
 abbrev pub with_ranges : DocumentState → List AtomicRange → DocumentState
 with_ranges document ranges =
     let cursor = moved_out ranges document.cursor Forward in
@@ -40,14 +41,17 @@ with_ranges document ranges =
       ranges = ranges;
       cursor = cursor;
       anchor = unless_empty (anchor_out ranges document.anchor) cursor;
+      past_ranges = no_past_ranges document.past_ranges.on;
     }
 
 -- the ranges are accepted: sorted by row and start, those with the same start in their given order
 abbrev pub accepted : DocumentState → List AtomicRange → DocumentState
 accepted document ranges = with_ranges document (in_order ranges)
 
+-- there are no ranges, and none are remembered
 abbrev pub ranges_forgotten : DocumentState → DocumentState
-ranges_forgotten document = record document { ranges = [] }
+ranges_forgotten document =
+    record document { ranges = []; past_ranges = no_past_ranges document.past_ranges.on }
 
 -- the cursor moves out of the range that strictly contains it, and all else stays
 abbrev pub normalized : DocumentState → AtomicCursorBias → DocumentState

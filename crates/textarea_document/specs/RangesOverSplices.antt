@@ -16,6 +16,12 @@ pub record RangesFollowSplices (old : DocumentState) (splices : List Splice) (ne
   pub text : IsTextBefore old.text new.text splices
   pub ranges : new.ranges ≡ ranges_over old.ranges splices
 
+-- The same over the splices of an undo or a redo, where the ranges move with the text if none are
+-- remembered from before.
+pub record RangesFollowPast (old : DocumentState) (splices : List Splice) (new : DocumentState) : Type 0 where
+  pub text : IsTextBefore old.text new.text splices
+  pub ranges : old.past_ranges.before ≡ [] → new.ranges ≡ ranges_over old.ranges splices
+
 -- each of the splices splits none of the ranges at its time: what it inserts is strictly inside
 -- none, and what it removes contains each completely or not at all
 abbrev pub SplitNoRange : List AtomicRange → List Splice → Type 0

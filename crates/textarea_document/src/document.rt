@@ -8,6 +8,7 @@ pub mod insertions;
 mod laws;
 mod moving;
 mod next_symbol;
+mod range_history;
 mod ranges;
 mod removals;
 mod replacing;
@@ -18,9 +19,10 @@ mod undo;
 
 ghost use Rattle.std.specs.Prelude.{◌≡◌, ◌<◌, ◌≤◌, ◌+◌, ◌↔◌, length, OnOk, OnErr, IsOk, IfOk, IfSome, None, IsTrue, is_some, [], vec_len};
 ghost use Rattle.textarea_document.specs.ChangeLog.{changes_of};
-ghost use Rattle.textarea_document.specs.Prelude.{as_nanos, size_limit, lines, lines_of, text_of, IsPlace, size_of, Fits, place_after, IsWellFormed, empty_log, newest, next, new_document, lines_replaced, after_edit, after_move, after_redo, run_ended, after_undo, applied_to, moved_ranges, with_splice, AreInOrder, AreValid, SplitsNoRange};
+ghost use Rattle.textarea_document.specs.Prelude.{history_forgotten, as_nanos, size_limit, lines, lines_of, text_of, IsPlace, size_of, Fits, place_after, IsWellFormed, newest, next, new_document, lines_replaced, after_edit, after_move, after_redo, run_ended, after_undo, applied_to, moved_ranges, with_splice, AreInOrder, AreValid, SplitsNoRange};
 
 use crate::document::changes::ChangeLog;
+use crate::document::range_history::RangeHistory;
 use std::alloc::{AllocError, Global};
 use std::marker::Model;
 use std::time::Duration;
@@ -43,10 +45,12 @@ pub struct Document {
     ranges: Vec<AtomicRange>,
     history: History,
     changes: ChangeLog,
+    range_history: RangeHistory,
 }
 
 impl Model for Document {
     ghost use Rattle.textarea_document.specs.ChangeLog.{changes_of};
+    ghost use Rattle.textarea_document.specs.RangeHistory.{past_of};
     ghost use Rattle.textarea_document.specs.DocumentState.{DocumentState, document_of};
 
     ghost Value = { DocumentState };
@@ -55,11 +59,11 @@ impl Model for Document {
 
     ghost view = { λ document.
         document_of document.text_layout document.cursor document.anchor document.ranges.items
-        document.history.log (changes_of document.changes) };
+        document.history.log (changes_of document.changes) (past_of document.range_history) };
 
     ghost invariant = { λ document. IsSound
         (document_of document.text_layout document.cursor document.anchor document.ranges.items
-        document.history.log (changes_of document.changes)) };
+        document.history.log (changes_of document.changes) (past_of document.range_history)) };
 }
 
 impl Clone for Document {
@@ -77,6 +81,7 @@ impl Clone for Document {
             ranges: self.ranges.clone()?,
             history: self.history.clone()?,
             changes: self.changes.emptied(),
+            range_history: self.range_history.copied()?,
         })
     }
 }
@@ -108,6 +113,7 @@ impl Document {
         let ranges = Vec::new(alloc);
         let history = History::new(alloc, max_histories);
         let changes = ChangeLog::new(alloc, None);
+        let range_history = RangeHistory::new(alloc, false);
         Ok(Document {
             text_layout,
             cursor: (0, 0),
@@ -115,6 +121,7 @@ impl Document {
             ranges,
             history,
             changes,
+            range_history,
         })
     }
 
@@ -161,9 +168,10 @@ impl Document {
     }
 
     /// Undoes the newest group of edits, and returns whether there was an edit. The cursor is then
-    /// after the text that was restored last, or where text was removed last; nothing is selected,
-    /// and the remaining ranges have moved with the text. An open group is closed. The edits of a
-    /// group are undone in a copy of the document, so that out of memory changes nothing.
+    /// after the text that was restored last, or where text was removed last, and nothing is selected.
+    /// The ranges are those before the group, if these are remembered, as for `set_undo_ranges`; else
+    /// the remaining ones have moved with the text. An open group is closed. The edits of a group are
+    /// undone in a copy of the document, so that out of memory changes nothing.
     pub fn undo(&mut self) -> Result<bool, AllocError>
         ensures undone { IfOk result (λ found. found ≡ is_some (newest self.old.log)) }
         ensures ok { OnOk result (self.new ≡ after_undo self.old) }
@@ -178,8 +186,9 @@ impl Document {
     }
 
     /// Redoes the group of edits that was undone last, and returns whether there was an edit. The
-    /// cursor is then where its last edit left it, nothing is selected, and the other ranges have
-    /// moved with the text. An open group is closed. Out of memory changes nothing, as for `undo`.
+    /// cursor is then where its last edit left it, and nothing is selected. The ranges are those after
+    /// the group, if these are remembered; else the other ones have moved with the text. An open group
+    /// is closed. Out of memory changes nothing, as for `undo`.
     pub fn redo(&mut self) -> Result<bool, AllocError>
         ensures redone { IfOk result (λ found. found ≡ is_some (next self.old.log)) }
         ensures ok { OnOk result (self.new ≡ after_redo self.old) }
@@ -203,6 +212,9 @@ impl Document {
         ensures err { OnErr result (self.new ≡ self.old) }
     {
         self.history.reserve()?;
+        let kept = self
+            .range_history
+            .prepare(&self.ranges, &self.history, &edit, typed, now)?;
         let cursor = make_change(
             &mut self.text_layout,
             &mut self.ranges,
@@ -210,7 +222,10 @@ impl Document {
             edit.change(),
         )?;
         self.cursor = cursor;
+        let undone = self.history.undone_len();
         self.history.put(edit, typed, now);
+        self.range_history
+            .remember(kept, undone, self.history.done_len());
         self.anchor = None;
         Ok(())
     }
@@ -279,6 +294,7 @@ impl Document {
         self.cursor = place;
         self.anchor = None;
         self.ranges.clear();
+        self.range_history.forget();
         self.history = history;
         self.changes.put(change);
         Ok(())
@@ -293,10 +309,12 @@ impl Document {
         text_layout.into_lines()
     }
 
-    /// Forgets all edits and an open group, and remembers at most this number of edits from now on.
+    /// Forgets all edits, the ranges before them and an open group, and remembers at most this number
+    /// of edits from now on.
     pub fn set_max_histories(&mut self, max_histories: usize)
-        ensures { self.new ≡ record self.old { log = empty_log max_histories } }
+        ensures { self.new ≡ history_forgotten self.old max_histories }
     {
+        self.range_history.forget();
         self.history = History::new(self.text_layout.allocator(), max_histories);
     }
 }

@@ -1,6 +1,6 @@
 //! Laws of documents and their visual rows, each the contract of a function that does nothing.
-ghost use Rattle.std.specs.Prelude.{◌≡◌, ℕ, Bool, false, List, [], ◌∷◌, Contains, None, Option};
-ghost use Rattle.textarea_document.specs.Prelude.{redo_splices, undo_splices, LayoutSettings, AtomicRange, TakesRange, moved_range, Place, end, Fits, Splice, Symbol, WrapsAll, WrapsBySettings, WrapsByWidth, SplicedBy, SplicesBy, HasEffect, EditStep, splice_of_step, stepped, AllStayOrAreDropped, AllStemFrom, RangesFollowSplices, RangesStayWhole, after_edit, after_redo, after_undo, SplitsNoRange, HasRowsAt, IsAboveCursor, IsBelowCursor, with_inner_width, with_layout_settings, IsSound, DocumentState, fresh_document, ChangesLead, lines_replaced};
+ghost use Rattle.std.specs.Prelude.{◌≡◌, ℕ, Bool, false, List, [], ◌∷◌, Contains, None, Option, Some};
+ghost use Rattle.textarea_document.specs.Prelude.{redo_splices, undo_splices, LayoutSettings, AtomicRange, TakesRange, moved_range, Place, end, Fits, Splice, Symbol, WrapsAll, WrapsBySettings, WrapsByWidth, SplicedBy, SplicesBy, HasEffect, EditStep, splice_of_step, stepped, AllStayOrAreDropped, AllStemFrom, RangesFollowPast, RangesFollowSplices, RangesStayWhole, after_edit, after_redo, after_undo, SplitsNoRange, HasRowsAt, IsAboveCursor, IsBelowCursor, with_inner_width, with_layout_settings, IsSound, DocumentState, fresh_document, CoversNoMore, RemembersBefore, newest_group, ranges_before_group, ChangesLead, lines_replaced};
 ghost use Rattle.textarea_document.specs.ReplacedText.{AreReplaceable, with_replaced};
 ghost use Rattle.textarea_document.specs.Replacing.{all_replaced};
 
@@ -61,7 +61,8 @@ pub fn layout_changes_wrap()
 }
 
 /// The ranges of a document move with its text: over the splice of an edit that splits no range, as
-/// each of the five steps does, and over those of an undo or a redo. After such splices each range
+/// each of the five steps does, and over those of an undo or a redo, unless ranges are remembered
+/// for these. After such splices each range
 /// comes from an old one, and covers the same characters, all in one line; and each old range either
 /// is there, as the splices move it, or is disturbed by one of them: nothing else drops a range.
 pub fn ranges_follow_splices()
@@ -73,13 +74,43 @@ pub fn ranges_follow_splices()
         RangesStayWhole document (splice_of_step document step ∷ [])
         (stepped document step typed now) }
     ensures undone { (document : DocumentState) → IsSound document →
-        RangesFollowSplices document (undo_splices document) (after_undo document) }
+        RangesFollowPast document (undo_splices document) (after_undo document) }
     ensures redone { (document : DocumentState) → IsSound document →
-        RangesFollowSplices document (redo_splices document) (after_redo document) }
+        RangesFollowPast document (redo_splices document) (after_redo document) }
     ensures stem { (old new : DocumentState) (splices : List Splice) →
         IsSound old → RangesFollowSplices old splices new → AllStemFrom old splices new }
     ensures dropped { (old new : DocumentState) (splices : List Splice) →
         RangesFollowSplices old splices new → AllStayOrAreDropped old splices new }
+{
+    ranges_follow_the_text();
+}
+
+/// With remembered ranges an undo of a group leaves exactly the ranges that were there before its
+/// oldest edit, if these are remembered. They are those before an edit that is recorded separately
+/// while ranges are to be remembered, as long as none are set or cleared: an undo after such an edit,
+/// which is a group by itself, leaves the ranges of the document before it.
+pub fn undo_gives_ranges_back()
+    ensures group { (document : DocumentState) (ranges : List AtomicRange) → IsSound document →
+        ranges_before_group document ≡ Some ranges → (after_undo document).ranges ≡ ranges }
+    ensures edited { (document : DocumentState) (splice : Splice) (typed : Bool) (now : ℕ) →
+        IsSound document → Fits document.text splice →
+        RemembersBefore document splice typed now →
+        newest_group (after_edit document splice typed now).log ≡ 1 →
+        (after_undo (after_edit document splice typed now)).ranges ≡ document.ranges }
+{}
+
+/// What ranges cover stays what ranges covered before: after an edit, an undo or a redo each range
+/// of the document, and each that is remembered, covers characters that one of them covered before
+/// it, in the text of its time. So each range stems from the last ones that were set, also one that an
+/// undo gives back.
+pub fn ranges_cover_no_more()
+    ensures edited { (document : DocumentState) (splice : Splice) (typed : Bool) (now : ℕ) →
+        IsSound document → Fits document.text splice →
+        CoversNoMore document (after_edit document splice typed now) }
+    ensures undone { (document : DocumentState) → IsSound document →
+        CoversNoMore document (after_undo document) }
+    ensures redone { (document : DocumentState) → IsSound document →
+        CoversNoMore document (after_redo document) }
 {
     ranges_follow_the_text();
 }

@@ -1,7 +1,7 @@
 -- The text areas of an editor, as they are set up.
 use Rattle.std.specs.Prelude.{◌≡◌, Bool, true, List, Some}
 use Rattle.textarea_data.specs.declared.cursor.CursorRenderMode.TheVariants.{Hidden}
-use Rattle.textarea_document.specs.Prelude.{empty_log}
+use Rattle.textarea_document.specs.Prelude.{history_forgotten}
 use Rattle.textarea_editor.specs.EventCalls.{wrap_mode}
 use Rattle.textarea_screen.specs.Style.{empty_style, with_modifier}
 use Rattle.textarea_screen.specs.declared.screen.color.Color.TheVariants.{Black, Yellow}
@@ -31,7 +31,7 @@ IsShown area = area ≡ with_hidden_cursor (new_state area.document.text)
 -- Tab inserts a tab
 abbrev pub set_up : State → State
 set_up area = with_hidden_cursor (record area {
-  document = record area.document { log = empty_log 1_000_000 };
+  document = history_forgotten area.document 1_000_000;
   settings = record area.settings { undo_coalescing = true; hard_tab_indent = true; undo_grouping = true };
   drawing = record area.drawing { look = record area.drawing.look { search_style = match_style; selection_style = selected_style } };
 })

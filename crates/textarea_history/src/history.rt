@@ -88,6 +88,20 @@ impl History {
         self.max_items
     }
 
+    /// Returns the number of done edits.
+    pub fn done_len(&self) -> usize
+        ensures { result ≡ length self.now.log.done }
+    {
+        self.index
+    }
+
+    /// Returns the number of undone edits.
+    pub fn undone_len(&self) -> usize
+        ensures { result ≡ length self.now.log.undone }
+    {
+        self.items.len() - self.index
+    }
+
     /// Ends the run of typing, if one is open.
     pub fn break_run(&mut self)
         ensures { self.new.log ≡ record self.old.log { run_open = false } }
@@ -140,8 +154,8 @@ impl History {
         }
     }
 
-    /// Returns whether the edit joins the newest one.
-    fn joins(&self, edit: &Edit, coalesce: bool, now: Duration) -> bool
+    /// Returns whether `put` will join the edit to the newest one, as in a run of typing.
+    pub fn joins(&self, edit: &Edit, coalesce: bool, now: Duration) -> bool
         requires { IsWellFormed edit.now }
         ensures { result ≡ joins self.now.log edit.now.splice coalesce (as_nanos now) }
     {

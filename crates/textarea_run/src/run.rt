@@ -33,12 +33,12 @@ pub struct RunEnd {
 /// visual rows, measured height, drawn cells, caret and hit tests are those of a layout computed
 /// anew from text, cursor, highlights, settings, viewport and last area.
 ///
-/// Each range comes from those that a call of the list set last, or else from those at the start,
-/// and covers the same characters as then, all in one line. Outside undo, redo and `set_lines` each
-/// splice takes a range completely or not at all, and no insertion is strictly inside one. A range
-/// is dropped only by a removal that takes it completely, by an undo or a redo whose splice
-/// overlaps it or is strictly inside it, by `set_lines`, by `clear_atomic_ranges`, and by ranges
-/// that a call sets.
+/// Each range covers the same characters as one of those that a call of the list set last, or else of
+/// those at the start, all in one line. It is one of these, moved, or of those that an undo or a redo
+/// gave back. Outside undo, redo and `set_lines` each splice takes a range completely or not at all,
+/// and no insertion is strictly inside one. A range is dropped only by a removal that takes it
+/// completely, by an undo or a redo whose splice overlaps it or is strictly inside it, or that gives
+/// others back, by `set_lines`, by `clear_atomic_ranges`, and by ranges that a call sets.
 ///
 /// If no call begins or ends the log of changes, those that the calls return, and after them those in
 /// the log at the end, follow those in the log at the start, and the further ones, applied one after

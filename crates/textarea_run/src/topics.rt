@@ -94,6 +94,10 @@ pub(crate) fn history_call(area: &mut TextArea<'_>, call: HistoryCall) -> Result
             area.set_undo_grouping(groups);
             Ok(Answer::Done)
         }
+        HistoryCall::SetUndoRanges(on) => {
+            area.set_undo_ranges(on);
+            Ok(Answer::Done)
+        }
         HistoryCall::BeginUndoGroup => {
             area.begin_undo_group();
             Ok(Answer::Done)
@@ -401,6 +405,7 @@ pub(crate) fn read_call(area: &mut TextArea<'_>, call: ReadCall) -> Result<Answe
         ReadCall::MaxHistories => Ok(Answer::Number(area.max_histories())),
         ReadCall::UndoCoalescing => Ok(Answer::Flag(area.undo_coalescing())),
         ReadCall::UndoGrouping => Ok(Answer::Flag(area.undo_grouping())),
+        ReadCall::UndoRanges => Ok(Answer::Flag(area.undo_ranges())),
         ReadCall::ReadOnly => Ok(Answer::Flag(area.read_only())),
         ReadCall::SingleLine => Ok(Answer::Flag(area.single_line())),
         ReadCall::MaxChars => Ok(Answer::NumberIfAny(area.max_chars())),

@@ -14,6 +14,7 @@ commands_with_arguments =
     ∷ (codes "set_max_histories", plain_command number call.SetMaxHistories)
     ∷ (codes "set_undo_coalescing", plain_command truth call.SetUndoCoalescing)
     ∷ (codes "set_undo_grouping", plain_command truth call.SetUndoGrouping)
+    ∷ (codes "set_undo_ranges", plain_command truth call.SetUndoRanges)
     ∷ (codes "set_change_log", plain_command change_unit_named call.SetChangeLog)
     ∷ (codes "move", plain_command move_named call.Move)
     ∷ (codes "go_to", plain_command two_numbers call.GoTo)

@@ -70,6 +70,7 @@ pub fn call_with_arguments(name: &str, arguments: &str) -> Option<Call<'static>>
         "set_max_histories" => Some(Call::SetMaxHistories(size(arguments)?)),
         "set_undo_coalescing" => Some(Call::SetUndoCoalescing(truth(arguments)?)),
         "set_undo_grouping" => Some(Call::SetUndoGrouping(truth(arguments)?)),
+        "set_undo_ranges" => Some(Call::SetUndoRanges(truth(arguments)?)),
         "set_change_log" => Some(Call::SetChangeLog(change_unit_named(arguments)?)),
         "move" => Some(Call::Move(move_named(arguments)?)),
         "go_to" => Some(Call::GoTo(two_numbers(arguments)?)),

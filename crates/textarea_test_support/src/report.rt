@@ -46,6 +46,7 @@ fn tell(differences: &mut Differences, area: &TextArea<'_>) -> Result<(), AllocE
     differences.flag(area.hard_tab_indent(), "hard_tab_indent")?;
     differences.flag(area.undo_coalescing(), "undo_coalescing")?;
     differences.flag(area.undo_grouping(), "undo_grouping")?;
+    differences.flag(area.undo_ranges(), "undo_ranges")?;
     differences.flag(area.read_only(), "read_only")?;
     differences.flag(area.single_line(), "single_line")?;
     differences.number(

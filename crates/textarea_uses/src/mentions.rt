@@ -1,11 +1,12 @@
 //! A note with mentions. Its user can rely on it that the listed names are those of the mentions in
-//! the text, and that keys make no mention, and change none but by removing it as a whole.
+//! the text, and that keys make no mention, and change none but by removing it as a whole, or by an
+//! undo that gives it back.
 ghost use Rattle.std.specs.Prelude.{◌≡◌, ◌<◌, ◌↔◌, [], IfOk, IsTrue, if◌then◌else◌, drop, encode_utf8_all, length, string_bytes, take};
 ghost use Rattle.std.specs.Str.{chars};
 ghost use Rattle.textarea_data.specs.declared.range.AtomicCursorBias.TheVariants.{Forward};
 ghost use Rattle.textarea_ranges.specs.Moved.{covered_characters};
 ghost use Rattle.textarea_text.specs.Text.{characters_of, lines, lines_of};
-ghost use Rattle.textarea_uses.specs.Mentions.{HasOnlyNamesOf, names_in, with_mention};
+ghost use Rattle.textarea_uses.specs.Mentions.{HasOnlyNamesOf, known_names, names_in, with_mention};
 ghost use Rattle.tui_textarea.specs.Prelude.{AreValid, ranges_accepted, settled};
 
 use std::alloc::{AllocError, Global};
@@ -23,9 +24,10 @@ pub struct Note {
 impl Note {
     /// Returns a note with this text, and without mentions.
     pub fn new(alloc: Global, text: &str) -> Result<Note, AllocError>
-        ensures { IfOk result (λ note. names_in note.area ≡ []) }
+        ensures { IfOk result (λ note. known_names note.area ≡ []) }
     {
-        let area = TextArea::from_text(alloc, text)?;
+        let mut area = TextArea::from_text(alloc, text)?;
+        area.set_undo_ranges(true);
         Ok(Note { area })
     }
 

@@ -28,7 +28,8 @@ use Rattle.textarea_document.specs.Sound.{IsSound}
 use Rattle.textarea_document.specs.Splices.{redo_splices, selected_splices, undo_splices}
 use Rattle.textarea_document.proofs.Inserts.{duplication_splits_none, selection_duplication_fits, sound_duplicated}
 use Rattle.textarea_document.proofs.Ranges.{valid_none}
-use Rattle.textarea_document.proofs.Sounds.{sound_begun, sound_ended, sound_fresh, start_is_place, sound_changes}
+use Rattle.textarea_document.specs.PastRanges.{no_past_ranges}
+use Rattle.textarea_document.proofs.Sounds.{none_past, sound_begun, sound_changes, sound_ended, sound_forgotten, sound_fresh, sound_past, sound_undo_ranges, start_is_place}
 use Rattle.tui_textarea.specs.CallResults.{CallResult, PatternRejected}
 use Rattle.tui_textarea.specs.CallSplices.{OfSplicesOutOfMemory, splices_by, splices_of}
 use Rattle.tui_textarea.specs.Calls.{StateOutOfMemory, call_splices, rejected_ranges, state_after, unguarded_after, unguarded_splices}
@@ -51,6 +52,7 @@ use Rattle.tui_textarea.proofs.FoundPlaces.{match_is_place}
 use Rattle.tui_textarea.proofs.Replacing.{all_by, lines_down_by, lines_shifted_by, lines_up_by, match_by, range_by, search_unchanged}
 use Rattle.tui_textarea.proofs.SoundStates.{sound_at, sound_cursor, sound_from, sound_goes, sound_ranges, sound_search, sound_settings, sound_unanchored}
 use Rattle.textarea_document.proofs.UndoGroups.{sound_redo, sound_undo}
+use Rattle.tui_textarea.proofs.Settling.{begun_unchanged, ended_unchanged, layout_and_ranges}
 use Rattle.tui_textarea.proofs.Stepping.{Reckoning, ahead_by, break_by, char_by, cleared_by, copied_by, cursor_range_by, cut_by, edited, kept, moved}
 use Rattle.tui_textarea.proofs.Stepping.{line_end_by, line_head_by, moves_unchanged, newline_by, selected_by, single_by, str_by, symbol_after_by, symbol_before_by, tab_by, unselected_by}
 use Rattle.tui_textarea.proofs.Stepping.{word_after_by, word_before_by}
@@ -224,16 +226,19 @@ module _ (By Own : Fact) (by : Reckoning By) (past : Past Own) where
   unguarded_by old (call.NormalizeCursorAroundAtomicRanges bias) h =
       given _ (kept By by old.document (unguarded_after old (call.NormalizeCursorAroundAtomicRanges bias)).document refl (sound_cursor old.document bias h))
   unguarded_by old (call.SetMaxHistories maximum) h =
-      given _ (kept By by old.document (unguarded_after old (call.SetMaxHistories maximum)).document refl
-      (record { cursor = h.cursor; anchor = h.anchor; ranges = h.ranges; in_order = h.in_order; undo = tt; redo = tt; bounded = omega arith; marks = refl; whole = refl }))
+      given _ (by.forgotten old.document (unguarded_after old (call.SetMaxHistories maximum)).document refl refl, sound_forgotten old.document maximum h)
+  unguarded_by old (call.SetUndoRanges true) h =
+      given _ (kept By by old.document (unguarded_after old (call.SetUndoRanges true)).document refl (sound_undo_ranges old.document true h))
+  unguarded_by old (call.SetUndoRanges false) h =
+      given _ (by.forgotten old.document (unguarded_after old (call.SetUndoRanges false)).document refl refl, sound_undo_ranges old.document false h)
   unguarded_by old (call.SetUndoCoalescing joins) h =
       given _ (kept By by old.document (unguarded_after old (call.SetUndoCoalescing joins)).document refl
-      (record { cursor = h.cursor; anchor = h.anchor; ranges = h.ranges; in_order = h.in_order; undo = h.undo; redo = h.redo; bounded = h.bounded; marks = h.marks; whole = h.whole }))
+      (record { cursor = h.cursor; anchor = h.anchor; ranges = h.ranges; in_order = h.in_order; undo = h.undo; redo = h.redo; bounded = h.bounded; marks = h.marks; whole = h.whole; past = h.past }))
   unguarded_by old (call.SetSingleLine single_line) h = given _ (single_by By by old single_line h)
   unguarded_by old call.BeginUndoGroup h =
-      given _ (kept By by old.document (unguarded_after old call.BeginUndoGroup).document refl (sound_begun old.document h))
+      given _ (kept By by old.document (unguarded_after old call.BeginUndoGroup).document (begun_unchanged old.document) (sound_begun old.document h))
   unguarded_by old call.EndUndoGroup h =
-      given _ (kept By by old.document (unguarded_after old call.EndUndoGroup).document refl (sound_ended old.document h))
+      given _ (kept By by old.document (unguarded_after old call.EndUndoGroup).document (ended_unchanged old.document) (sound_ended old.document h))
   unguarded_by old call.EndRun h =
       given _ (kept By by old.document (unguarded_after old call.EndRun).document refl
       (sound_at old.document old.document.cursor old.document.anchor h h.cursor h.anchor))
@@ -242,10 +247,14 @@ module _ (By Own : Fact) (by : Reckoning By) (past : Past Own) where
   unguarded_by old (call.SetLines items cursor) h =
       let place = clip (lines_of items.now) cursor in (
         tt,
-        λ can. sound_changes (fresh_document (text_of items.now) old.document.layout.settings old.document.layout.count place old.document.log.maximum)
-            (with_lines_replaced old.document.changes old.document.text (lines_of items.now))
+        λ can.
+            let fresh = fresh_document (text_of items.now) old.document.layout.settings old.document.layout.count place old.document.log.maximum in
+            let changes = with_lines_replaced old.document.changes old.document.text (lines_of items.now) in
+            sound_past (record fresh { changes = changes }) (no_past_ranges old.document.past_ranges.on)
+            (sound_changes fresh changes
             (sound_fresh (text_of items.now) old.document.layout.settings old.document.layout.count place old.document.log.maximum
-            (text_place items.now place (clip_is_place (lines_of items.now) cursor (omega (arith, can, length-map items.now characters_of))))),
+            (text_place items.now place (clip_is_place (lines_of items.now) cursor (omega (arith, can, length-map items.now characters_of))))))
+            (none_past (text_of items.now) [] [] old.document.past_ranges.on),
       )
   unguarded_by old (call.SetTabLength columns) h = (tt, λ can. sound_settings old.document (tab_length_set old columns) h)
   unguarded_by old (call.SetWrapMode mode) h = (tt, λ can. sound_settings old.document (mode_set old mode) h)
@@ -254,7 +263,8 @@ module _ (By Own : Fact) (by : Reckoning By) (past : Past Own) where
   unguarded_by old (call.SetAlignment alignment) h = (tt, λ can. sound_settings old.document (alignment_set old alignment) h)
   unguarded_by old (call.TrySetAtomicRanges ranges) h = (tt, λ can. sound_ranges (rejected_ranges old ranges.now) old ranges.now h refl)
   unguarded_by old call.ClearAtomicRanges h =
-      (tt, λ can. record { cursor = h.cursor; anchor = h.anchor; ranges = valid_none (lines old.document.text); in_order = refl; undo = h.undo; redo = h.redo; bounded = h.bounded; marks = h.marks; whole = h.whole })
+      (tt, λ can. record { cursor = h.cursor; anchor = h.anchor; ranges = valid_none (lines old.document.text); in_order = refl; undo = h.undo; redo = h.redo; bounded = h.bounded; marks = h.marks; whole = h.whole;
+      past = none_past old.document.text old.document.log.done old.document.log.undone old.document.past_ranges.on })
   unguarded_by old (call.SetChangeLog unit) h = (tt, λ can. sound_changes old.document (no_changes unit) h)
   unguarded_by old call.TakeChanges h = (tt, λ can. sound_changes old.document (no_changes old.document.changes.unit) h)
   unguarded_by old (call.Render area) h = (tt, λ can. h)

@@ -1,23 +1,18 @@
--- What actions leave of the text and of what ranges cover, by the laws of splices, and where inputs
--- at their times lead.
-use Rattle.std.proofs.Common.{◌≡◌, ◌∙◌, ℕ, Bool, true, false, cond, List, [], ◌∷◌, ◌++◌, map, inl, inr, refl, sym, subst, ap, arith, ⊎_elim}
+-- What actions leave of the text, by the laws of splices, and where inputs at their times lead.
+use Rattle.std.proofs.Common.{◌≡◌, ◌∙◌, ℕ, Bool, true, false, cond, List, [], ◌∷◌, ◌++◌, inl, inr, refl, sym, subst, ap, ⊎_elim}
 use Rattle.std.specs.Duration.{as_nanos}
 use Rattle.std.specs.declared.time.Duration.{Duration}
-use Rattle.std.specs.Prelude.{Contains}
-use Rattle.std.proofs.lemmas.List.{get_or-map, length-map}
-use Rattle.std.proofs.lemmas.List.Elements.{All-contains, All-cons, All-map, All-nil, All-weaker, Contains-get_or}
+use Rattle.std.proofs.lemmas.List.Elements.{All-cons, All-nil}
 use Rattle.textarea_data.specs.declared.input.Input.{Input}
-use Rattle.textarea_data.specs.declared.range.AtomicRange.{AtomicRange}
-use Rattle.textarea_ranges.specs.Moved.{covered_characters}
-use Rattle.textarea_text.specs.Splice.{Splice}
-use Rattle.textarea_text.specs.Text.{Symbol, Break, Character, lines}
+use Rattle.textarea_text.specs.Splice.{IsTextBefore, Splice}
+use Rattle.textarea_text.specs.Text.{Symbol, Break, Character}
 use Rattle.textarea_calls.specs.declared.action.Action.{Action}
 use Rattle.textarea_calls.specs.declared.action.Action.TheVariants as action
 use Rattle.textarea_document.specs.DocumentState.{DocumentState}
-use Rattle.textarea_document.specs.RangesOverSplices.{AllStemFrom, RangesFollowSplices, RangesStayWhole, StemsFrom}
+use Rattle.textarea_document.specs.RangesOverSplices.{RangesFollowPast, RangesFollowSplices, RangesStayWhole}
 use Rattle.textarea_document.specs.Sound.{IsSound}
 use Rattle.textarea_document.specs.Splices.{selected_splices}
-use Rattle.tui_textarea.specs.ActionTexts.{AllPass, CoversAsBefore, InsertsPassing, IsAfterAllTimed, IsAfterTimed, IsLeftByAction, covered_texts}
+use Rattle.tui_textarea.specs.ActionTexts.{AllPass, InsertsPassing, IsAfterAllTimed, IsAfterTimed, IsLeftByAction}
 use Rattle.tui_textarea.specs.CallSplices.{OfSplicesOutOfMemory, splices_by}
 use Rattle.tui_textarea.specs.Edits.{breaks_line}
 use Rattle.tui_textarea.specs.Guards.{admitted_over_selection}
@@ -37,16 +32,16 @@ use Rattle.tui_textarea.proofs.Stepping.{selected_by}
 
 -- ---- the splices of an action
 
-whole : (asked : Action) (old new : DocumentState) (splices : List Splice) → ByAct RangesStayWhole RangesFollowSplices asked old splices new → RangesFollowSplices old splices new
-whole action.Undo old new splices h = h
-whole action.Redo old new splices h = h
-whole asked old new splices h = h.0
+whole : (asked : Action) (old new : DocumentState) (splices : List Splice) → ByAct RangesStayWhole RangesFollowPast asked old splices new → IsTextBefore old.text new.text splices
+whole action.Undo old new splices h = h.text
+whole action.Redo old new splices h = h.text
+whole asked old new splices h = h.0.text
 
--- they lead from the old text to the new one, and the ranges move with it
-made_follows : (laws : TheLaws) (old new : State) (asked : Action) → IsSound old.document → IsAfterAction old asked new → RangesFollowSplices old.document (splices_by old asked) new.document
+-- they lead from the old text to the new one
+made_follows : (laws : TheLaws) (old new : State) (asked : Action) → IsSound old.document → IsAfterAction old asked new → IsTextBefore old.document.text new.document.text (splices_by old asked)
 made_follows laws old new asked sound made =
     whole asked old.document new.document (splices_by old asked)
-    (acts_by RangesStayWhole RangesFollowSplices (reckoning_of laws.edited) (past_follows laws.undone laws.redone) old new asked sound made)
+    (acts_by RangesStayWhole RangesFollowPast (reckoning_of laws.edited) (past_follows laws.undone laws.redone) old new asked sound made)
 
 -- the same of an action that ran out of memory: it made no splice, or removed the selected text
 left_follows : (laws : TheLaws) (old new : State) (asked : Action) → IsSound old.document → IsInputOutOfMemory old asked new
@@ -88,39 +83,11 @@ inserts_only test state asked h = tt
 pub symbols_pass : (laws : TheLaws) (test : Symbol → Bool) (old new : State) (asked : Action) → IsSound old.document → IsLeftByAction old asked new → InsertsPassing test old asked
     → AllPass test old.document.text → AllPass test new.document.text
 symbols_pass laws test old new asked sound (inl made) inserts all =
-    only_after_splices (Passes test) old.document.text new.document.text (splices_by old asked) (made_follows laws old new asked sound made).text all (inserts_only test old asked inserts)
+    only_after_splices (Passes test) old.document.text new.document.text (splices_by old asked) (made_follows laws old new asked sound made) all (inserts_only test old asked inserts)
 symbols_pass laws test old new asked sound (inr left) inserts all =
     ⊎_elim
     (λ none. only_after_splices (Passes test) old.document.text new.document.text [] none.text all tt)
     (λ gone. only_after_splices (Passes test) old.document.text new.document.text (selected_splices old.document) gone.text all (only_selected (Passes test) old.document))
-    (left_follows laws old new asked sound left)
-
--- ---- what ranges cover
-
--- the law of documents for the ranges after splices
-abbrev pub Stems : Type 0
-Stems = (old new : DocumentState) (splices : List Splice) → IsSound old → RangesFollowSplices old splices new → AllStemFrom old splices new
-
-contains_mapped : {X Y : Type 0} (f : X → Y) (xs : List X) (x : X) → Contains xs x → Contains (map f xs) (f x)
-contains_mapped f xs x at =
-    All-contains (λ y. Contains (map f xs) (f y)) xs x
-    (λ k d within. subst (Contains (map f xs)) (get_or-map f xs k d (f d) within) (Contains-get_or (map f xs) k (f d) (omega (arith, within, length-map xs f)))) at
-
-covers_by : (stems : Stems) (old new : State) (splices : List Splice) → IsSound old.document → RangesFollowSplices old.document splices new.document → CoversAsBefore old new
-covers_by stems old new splices sound follows =
-    let before = covered_characters (lines old.document.text) in
-    let after = covered_characters (lines new.document.text) in
-    All-map (Contains (covered_texts old)) after new.document.ranges
-    (All-weaker (StemsFrom old.document splices new.document) (λ (range : AtomicRange). Contains (covered_texts old) (after range))
-    (λ range from. subst (Contains (covered_texts old)) (sym from.covers.same) (contains_mapped before old.document.ranges from.origin from.stored))
-    new.document.ranges (stems old.document new.document splices sound follows))
-
-pub covers_as_before : (laws : TheLaws) (stems : Stems) (old new : State) (asked : Action) → IsSound old.document → IsLeftByAction old asked new → CoversAsBefore old new
-covers_as_before laws stems old new asked sound (inl made) = covers_by stems old new (splices_by old asked) sound (made_follows laws old new asked sound made)
-covers_as_before laws stems old new asked sound (inr left) =
-    ⊎_elim
-    (λ none. covers_by stems old new [] sound none)
-    (λ gone. covers_by stems old new (selected_splices old.document) sound gone)
     (left_follows laws old new asked sound left)
 
 -- ---- inputs at their times

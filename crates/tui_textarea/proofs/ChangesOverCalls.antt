@@ -29,7 +29,7 @@ use Rattle.tui_textarea.proofs.Frames.{drawn_document}
 use Rattle.textarea_data.specs.declared.range.AtomicCursorBias.TheVariants.{Forward}
 use Rattle.tui_textarea.specs.Ranges.{ranges_accepted}
 use Rattle.tui_textarea.specs.Units.{settled}
-use Rattle.tui_textarea.proofs.Settling.{LayoutAndRanges, layout_and_ranges, settled_layout, settled_text}
+use Rattle.tui_textarea.proofs.Settling.{LayoutAndRanges, Visible, layout_and_ranges, settled_layout, settled_text, visible}
 use Rattle.tui_textarea.proofs.Stepping.{Reckoning}
 
 -- ---- the laws of documents
@@ -44,8 +44,11 @@ pub record TheLaws : Type 0 where
 abbrev pub Logs : DocumentState → List Splice → DocumentState → Type 0
 Logs old splices new = ChangesLead old new
 
-stays : (old new : DocumentState) → layout_and_ranges new ≡ layout_and_ranges old → ChangesLead old new
-stays old new same = no_change_leads old new (ap (λ (s : LayoutAndRanges). s.0.text) same) (ap (λ (s : LayoutAndRanges). s.2) same)
+stays : (old new : DocumentState) → visible new ≡ visible old → ChangesLead old new
+stays old new same = no_change_leads old new (ap (λ (s : Visible). s.0.text) same) (ap (λ (s : Visible). s.2) same)
+
+shown : (old new : DocumentState) → layout_and_ranges new ≡ layout_and_ranges old → visible new ≡ visible old
+shown old new same = ap (λ (s : LayoutAndRanges). (s.0, s.1, s.2)) same
 
 unchanged : (old new outcome : State) → new ≡ outcome → outcome.document.text ≡ old.document.text → outcome.document.changes ≡ old.document.changes → ChangesLead old.document new.document
 unchanged old new outcome is text changes =
@@ -117,10 +120,11 @@ all_taken document = record {
 module _ (laws : TheLaws) where
   reckoned : Reckoning Logs
   reckoned = record {
-    none = stays;
-    same = λ old new other splices same h. leads_on old new other h (stays new other same);
+    none = λ old new same. stays old new (shown old new same);
+    same = λ old new other splices same h. leads_on old new other h (stays new other (shown new other same));
     two = λ old between new first second h k. leads_on old between new h k;
-    one = λ document splice typed now fits whole. laws.edited document splice typed now fits;
+    one = λ document splice typed now sound fits whole. laws.edited document splice typed now fits;
+    forgotten = λ old new same none. stays old new same;
   }
 
   past : Past Logs

@@ -58,6 +58,7 @@ mod CursorLine
 pub mod CallWraps
 mod RangesOverCalls
 mod RangesOverRuns
+mod Covering
 mod ChangesOverCalls
 mod ChangesOverRuns
 pub mod Runs

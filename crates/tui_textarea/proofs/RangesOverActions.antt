@@ -2,7 +2,7 @@
 use Rattle.std.proofs.Common.{◌≡◌, ℕ, Bool, List, [], ◌∷◌, ap, refl, sym, subst, ◌∙◌}
 use Rattle.textarea_screen.specs.declared.screen.rect.Rect.{Rect}
 use Rattle.textarea_text.specs.Splice.{Fits, Splice, IsTextBefore}
-use Rattle.textarea_document.specs.RangesOverSplices.{RangesFollowSplices, RangesStayWhole}
+use Rattle.textarea_document.specs.RangesOverSplices.{RangesFollowPast, RangesFollowSplices, RangesStayWhole}
 use Rattle.textarea_document.specs.Ranges.{SplitsNoRange}
 use Rattle.textarea_document.specs.Outcomes.{after_edit, after_redo, after_undo}
 use Rattle.textarea_document.specs.Sound.{IsSound}
@@ -13,7 +13,7 @@ use Rattle.tui_textarea.specs.Drawing.{IsRendered}
 use Rattle.tui_textarea.specs.State.{State}
 use Rattle.tui_textarea.proofs.Frames.{drawn_document}
 use Rattle.tui_textarea.proofs.Acting.{Past}
-use Rattle.tui_textarea.proofs.Settling.{LayoutAndRanges, layout_and_ranges}
+use Rattle.tui_textarea.proofs.Settling.{LayoutAndRanges, Visible, layout_and_ranges}
 use Rattle.tui_textarea.proofs.Stepping.{Reckoning}
 
 -- the law of documents for an edit, an undo and a redo
@@ -22,10 +22,10 @@ EditsGo = (document : DocumentState) (splice : Splice) (typed : Bool) (now : ℕ
     → RangesStayWhole document (splice ∷ []) (after_edit document splice typed now)
 
 abbrev pub UndosGo : Type 0
-UndosGo = (document : DocumentState) → IsSound document → RangesFollowSplices document (undo_splices document) (after_undo document)
+UndosGo = (document : DocumentState) → IsSound document → RangesFollowPast document (undo_splices document) (after_undo document)
 
 abbrev pub RedosGo : Type 0
-RedosGo = (document : DocumentState) → IsSound document → RangesFollowSplices document (redo_splices document) (after_redo document)
+RedosGo = (document : DocumentState) → IsSound document → RangesFollowPast document (redo_splices document) (after_redo document)
 
 still : (old new : DocumentState) → layout_and_ranges new ≡ layout_and_ranges old → RangesStayWhole old [] new
 still old new same = stays old new (ap (λ (s : LayoutAndRanges). s.0.text) same) (ap (λ (s : LayoutAndRanges). s.1) same)
@@ -41,7 +41,13 @@ follows_as : (old new other : DocumentState) (splices : List Splice) → layout_
 follows_as old new other splices same h = (followed_as old new other splices same h.0, h.1)
 
 pub reckoning_of : EditsGo → Reckoning RangesStayWhole
-reckoning_of edits = record { none = still; same = follows_as; two = ranges_stay_on; one = edits }
+reckoning_of edits = record {
+  none = still;
+  same = follows_as;
+  two = ranges_stay_on;
+  one = λ document splice typed now sound fits whole. edits document splice typed now fits whole;
+  forgotten = λ old new same none. stays old new (ap (λ (s : Visible). s.0.text) same) (ap (λ (s : Visible). s.1) same);
+}
 
 -- ---- what leaves text and ranges unchanged
 
@@ -52,5 +58,9 @@ ranges_stay_in_drawing old new area h =
 
 -- ---- calls
 
-pub past_follows : UndosGo → RedosGo → Past RangesFollowSplices
-past_follows undos redos = record { undos = undos; redos = redos; stays = λ document. (stays document document refl refl).0; same = followed_as }
+-- what follows over other splices does over those of an undo or a redo
+follows_past : (old new : DocumentState) (splices : List Splice) → RangesFollowSplices old splices new → RangesFollowPast old splices new
+follows_past old new splices h = record { text = h.text; ranges = λ none. h.ranges }
+
+pub past_follows : UndosGo → RedosGo → Past RangesFollowPast
+past_follows undos redos = record { undos = undos; redos = redos; stays = λ document. follows_past document document [] (stays document document refl refl).0 }

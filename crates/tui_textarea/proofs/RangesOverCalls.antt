@@ -5,7 +5,7 @@ use Rattle.textarea_calls.specs.declared.action.Action.TheVariants as action
 use Rattle.textarea_data.specs.declared.range.AtomicRange.{AtomicRange}
 use Rattle.textarea_data.specs.declared.range.RejectedAtomicRange.{RejectedAtomicRange}
 use Rattle.textarea_text.specs.Splice.{CanApply, Splice}
-use Rattle.textarea_document.specs.RangesOverSplices.{SplitNoRange, RangesFollowSplices, RangesStayWhole}
+use Rattle.textarea_document.specs.RangesOverSplices.{SplitNoRange, RangesFollowPast, RangesStayWhole}
 use Rattle.textarea_document.specs.Sound.{IsSound}
 use Rattle.textarea_document.specs.DocumentState.{DocumentState}
 use Rattle.textarea_document.proofs.RangesOverSplices.{stays}
@@ -72,14 +72,14 @@ Fitting state Free splices = CanApply state.document.text splices × ((¬ Free) 
 uncut : {Free : Type 0} (state : State) (splices : List Splice) (new : DocumentState) → RangesStayWhole state.document splices new → Fitting state Free splices
 uncut state splices new h = (h.0.text.can, λ no. h.1)
 
-follows_by_action : (asked : Action) (old new : DocumentState) (splices : List Splice) → ByAct RangesStayWhole RangesFollowSplices asked old splices new → RangesFollowAction asked old splices new
+follows_by_action : (asked : Action) (old new : DocumentState) (splices : List Splice) → ByAct RangesStayWhole RangesFollowPast asked old splices new → RangesFollowAction asked old splices new
 follows_by_action action.Undo old new splices h = h
 follows_by_action action.Redo old new splices h = h
 follows_by_action asked old new splices h = h
 
 module _ (laws : TheLaws) where
-  ranges_follow : (old new : State) (made : Call) (returned : CallResult) → IsSound old.document → IsAfterCall old made returned new → ByCall RangesStayWhole RangesFollowSplices made old.document (splices_of old made) new.document
-  ranges_follow old new made returned h k = calls_by RangesStayWhole RangesFollowSplices (reckoning_of laws.edited) (past_follows laws.undone laws.redone) old new made returned h k
+  ranges_follow : (old new : State) (made : Call) (returned : CallResult) → IsSound old.document → IsAfterCall old made returned new → ByCall RangesStayWhole RangesFollowPast made old.document (splices_of old made) new.document
+  ranges_follow old new made returned h k = calls_by RangesStayWhole RangesFollowPast (reckoning_of laws.edited) (past_follows laws.undone laws.redone) old new made returned h k
 
   pub ranges_follow_call : (old new : State) (made : Call) (returned : CallResult) → IsSound old.document → IsResultOf old made returned → IsAfterCall old made returned new → RangesFollowCall old made returned new
   ranges_follow_call old new (call.SetLines lines cursor) returned h e k =
@@ -106,7 +106,7 @@ module _ (laws : TheLaws) where
 
   inputs_go : (old new : State) (asked : Action) → IsSound old.document → IsAfterAction old asked new → RangesFollowAction asked old.document (splices_by old asked) new.document
   inputs_go old new asked h k =
-      follows_by_action asked old.document new.document _ (acts_by RangesStayWhole RangesFollowSplices (reckoning_of laws.edited) (past_follows laws.undone laws.redone) old new asked h k)
+      follows_by_action asked old.document new.document _ (acts_by RangesStayWhole RangesFollowPast (reckoning_of laws.edited) (past_follows laws.undone laws.redone) old new asked h k)
 
   act_fits : (state : State) (asked : Action) → IsSound state.document → Fitting state (IsUndoOrRedoAct asked) (splices_by state asked)
   act_fits state action.Undo h = ((inputs_go state (state_after state call.Undo) action.Undo h refl).text.can, λ no. absurd (no tt))

@@ -28,7 +28,7 @@ use Rattle.tui_textarea.specs.State.{State, with_document}
 use Rattle.tui_textarea.proofs.Cases.{by_both, by_test}
 use Rattle.tui_textarea.proofs.FoundPlaces.{match_is_place}
 use Rattle.tui_textarea.proofs.SoundStates.{clipped, sound_at, sound_from, sound_search}
-use Rattle.tui_textarea.proofs.Settling.{layout_and_ranges}
+use Rattle.tui_textarea.proofs.Settling.{begun_unchanged, ended_unchanged, layout_and_ranges}
 use Rattle.tui_textarea.proofs.Stepping.{Reckoning, between_by, kept, moved, symbols_by}
 use Rattle.tui_textarea.proofs.Targets.{clip_is_place, index_is_place}
 
@@ -82,12 +82,12 @@ module _ (By : DocumentState → List Splice → DocumentState → Type 0) (by :
   -- ---- in one group
 
   begun_by : (document : DocumentState) → IsSound document → Keeps document [] (begun document)
-  begun_by document h = kept By by document (begun document) refl (sound_begun document h)
+  begun_by document h = kept By by document (begun document) (begun_unchanged document) (sound_begun document h)
 
   ended_by : (before after : DocumentState) (splices : List Splice) → Keeps before splices after → Keeps before splices (ended_after before after)
   ended_by before after splices h =
       by_test (Keeps before splices) (is_open before.log.group) after (record after { log = group_ended after.log })
-      (λ outer. h) (λ own. moved By by before after (record after { log = group_ended after.log }) splices refl (sound_ended after h.1) h)
+      (λ outer. h) (λ own. moved By by before after (record after { log = group_ended after.log }) splices (ended_unchanged after) (sound_ended after h.1) h)
 
   pub range_by : (document : DocumentState) (from to : Place) (symbols : List Symbol) (now : ℕ) → IsSound document
       → Keeps document (range_splices document from to symbols now) (range_replaced document from to symbols now)
@@ -119,7 +119,7 @@ module _ (By : DocumentState → List Splice → DocumentState → Type 0) (by :
 
   start_by : (document : DocumentState) → IsSound document → Keeps document [] (begun_at_start document)
   start_by document h =
-      kept By by document (begun_at_start document) refl (sound_at (begun document) (0, 0) None (sound_begun document h) (start_is_place document.text) tt)
+      kept By by document (begun_at_start document) (begun_unchanged document) (sound_at (begun document) (0, 0) None (sound_begun document h) (start_is_place document.text) tt)
 
   pub all_by : (document : DocumentState) (stretches : List (ℕ × ℕ)) (symbols : List Symbol) (now : ℕ) → IsSound document
       → Keeps document (all_splices document stretches symbols now) (all_replaced document stretches symbols now)

@@ -1,5 +1,5 @@
 -- Cursor and anchor that are moved out of clusters and ranges: what stays, and where they are then.
-use Rattle.std.proofs.Common.{◌≡◌, ◌∙◌, Bool, List, true, Option, None, Some, IfSome, option_map, ap, refl, subst, sym}
+use Rattle.std.proofs.Common.{◌≡◌, ◌∙◌, ℕ, Bool, if◌then◌else◌, List, true, false, Option, None, Some, IfSome, option_map, ap, refl, subst, sym}
 use Rattle.textarea_clusters.proofs.StopPlaces.{stop_ahead_is_stop, stop_ahead_place, stop_ahead_same, stop_back_is_stop, stop_back_place, stop_back_same}
 use Rattle.textarea_data.specs.declared.cursor.CursorUnit.{CursorUnit}
 use Rattle.textarea_data.specs.declared.cursor.CursorUnit.TheVariants as unit
@@ -9,7 +9,11 @@ use Rattle.textarea_data.specs.declared.range.AtomicRange.{AtomicRange}
 use Rattle.textarea_lines.specs.TextLayout.{TextAndLayout}
 use Rattle.textarea_text.specs.Place.{IsPlace, Place}
 use Rattle.textarea_text.specs.Text.{Symbol, lines}
+use Rattle.textarea_history.specs.Groups.{is_open}
+use Rattle.textarea_history.specs.Log.{group_begun, group_ended}
+use Rattle.textarea_history.specs.declared.history.groups.Group.TheVariants.{Closed, Empty}
 use Rattle.textarea_document.specs.Changes.{LoggedChanges}
+use Rattle.textarea_document.specs.Covered.{covered_past}
 use Rattle.textarea_document.specs.DocumentRows.{text_and_layout}
 use Rattle.textarea_document.specs.DocumentState.{DocumentState}
 use Rattle.textarea_document.specs.Sound.{IsSound}
@@ -20,11 +24,33 @@ use Rattle.tui_textarea.specs.Units.{AreAtStops, IsAtStop, IsSettled, IsSettledB
 unfoldable use Rattle.tui_textarea.specs.Units.{settled}
 
 -- the visible side of a document's text: its layout and ranges, and its log of changes
+abbrev pub Visible : Type 0
+Visible = TextAndLayout × List AtomicRange × LoggedChanges
+
+abbrev pub visible : DocumentState → Visible
+visible document = (text_and_layout document, document.ranges, document.changes)
+
+-- the same with what the remembered ranges cover
 abbrev pub LayoutAndRanges : Type 0
-LayoutAndRanges = TextAndLayout × List AtomicRange × LoggedChanges
+LayoutAndRanges = TextAndLayout × List AtomicRange × LoggedChanges × List (List ℕ)
 
 abbrev pub layout_and_ranges : DocumentState → LayoutAndRanges
-layout_and_ranges document = (text_and_layout document, document.ranges, document.changes)
+layout_and_ranges document = (text_and_layout document, document.ranges, document.changes, covered_past document)
+
+-- a group that begins or ends
+pub begun_unchanged : (document : DocumentState) → layout_and_ranges (record document { log = group_begun document.log }) ≡ layout_and_ranges document
+begun_unchanged document = by (is_open document.log.group)
+  where
+    by : (b : Bool) → layout_and_ranges (record document { log = if b then document.log else record document.log { run_open = false; group = Empty } }) ≡ layout_and_ranges document
+    by true = refl
+    by false = refl
+
+pub ended_unchanged : (document : DocumentState) → layout_and_ranges (record document { log = group_ended document.log }) ≡ layout_and_ranges document
+ended_unchanged document = by (is_open document.log.group)
+  where
+    by : (b : Bool) → layout_and_ranges (record document { log = if b then record document.log { run_open = false; group = Closed } else document.log }) ≡ layout_and_ranges document
+    by true = refl
+    by false = refl
 
 -- a fact of the state, whether the cursor goes by characters or by clusters
 pub by_unit : (P : State → Type 0) (bias : AtomicCursorBias) (state : State) → (state.settings.cursor_unit ≡ unit.Character → P state)

@@ -20,7 +20,7 @@ use Rattle.textarea_document.specs.DocumentState.{DocumentState}
 use Rattle.textarea_document.specs.Outcomes.{after_move, unanchored}
 use Rattle.textarea_document.specs.Sound.{IsSound}
 use Rattle.textarea_document.proofs.Ranges.{anchor_place}
-use Rattle.textarea_document.proofs.Sounds.{resound, sound_otherwise}
+use Rattle.textarea_document.proofs.Sounds.{none_past, resound, sound_otherwise}
 use Rattle.tui_textarea.specs.Calls.{rejected_ranges, with_ranges_if}
 use Rattle.textarea_history.specs.declared.history.groups.Group.{Group}
 use Rattle.tui_textarea.specs.Grouping.{with_group}
@@ -100,6 +100,7 @@ sound_accepted state ranges h none =
       bounded = h.bounded;
       marks = h.marks;
       whole = h.whole;
+      past = none_past document.text document.log.done document.log.undone document.past_ranges.on;
     }
 
 pub sound_ranges : (rejected : List RejectedAtomicRange) (state : State) (ranges : List AtomicRange)

@@ -38,7 +38,7 @@ abbrev Any : Fact
 Any old splices new = Unit {0}
 
 any : Reckoning Any
-any = record { none = λ old new same. tt; same = λ old new other splices same h. tt; two = λ old between new first second h k. tt; one = λ document splice typed now fits whole. tt }
+any = record { none = λ old new same. tt; same = λ old new other splices same h. tt; two = λ old between new first second h k. tt; one = λ document splice typed now sound fits whole. tt; forgotten = λ old new same none. tt }
 
 past_any : Past Any
 past_any = record { undos = λ document h. tt; redos = λ document h. tt; stays = λ document. tt; same = λ old new other splices same h. tt }

@@ -22,7 +22,7 @@ use Rattle.textarea_document.specs.Sound.{IsSound}
 use Rattle.textarea_document.specs.Splices.{after_splices, before_splices, break_splices, insertion_splices, range_splices_or}
 use Rattle.textarea_document.specs.Splices.{removal_splices, selected_splices}
 use Rattle.textarea_document.specs.Target.{word_end_after, word_start_before}
-use Rattle.textarea_document.proofs.Sounds.{sound_edited}
+use Rattle.textarea_document.proofs.Sounds.{sound_edited, sound_forgotten}
 use Rattle.textarea_document.proofs.StepLaw.{step_keeps}
 use Rattle.tui_textarea.specs.Edits.{breaks_line, char_inserted, char_or_break_inserted, fitting_spaces, line_broken, newline_inserted, str_inserted, symbols_or_none_inserted}
 use Rattle.tui_textarea.specs.Edits.{tab_inserted, tab_or_spaces_inserted, typed_character_inserted}
@@ -40,7 +40,7 @@ use Rattle.tui_textarea.specs.Splices.{tab_splices, word_after_splices, word_bef
 use Rattle.tui_textarea.specs.State.{State}
 use Rattle.tui_textarea.specs.Units.{earlier_start, later_end, whole_end, whole_start}
 use Rattle.tui_textarea.proofs.Cases.{apart, by_both, by_test}
-use Rattle.tui_textarea.proofs.Settling.{layout_and_ranges, settled_layout}
+use Rattle.tui_textarea.proofs.Settling.{LayoutAndRanges, begun_unchanged, ended_unchanged, layout_and_ranges, settled_layout, visible}
 use Rattle.tui_textarea.proofs.WholeRemovals.{earlier_made, later_made, removes_from_whole, removes_up_to_whole, removes_whole}
 use Rattle.tui_textarea.proofs.Grouping.{char_beside, str_beside, tab_beside}
 use Rattle.tui_textarea.proofs.Removing.{ahead_made, range_removal_made, line_end_made, line_head_made, selected_made, whole_made, word_end_made, word_start_made}
@@ -69,14 +69,16 @@ some_symbols [] e = absurd cc
 some_symbols (symbol ∷ symbols) e = omega arith
 
 -- A relation of two documents and the splices between them. No splices relate documents of the same
--- text, layout, ranges and log of changes; a splice that fits and splits no range relates a document to the one
--- after its edit, whatever its cursor and anchor; and splices compose.
+-- text, layout, ranges and log of changes, if their remembered ranges cover the same or the new one has none; a
+-- splice that fits and splits no range relates a document to the one after its edit, whatever its cursor and
+-- anchor; and splices compose.
 pub record Reckoning (By : DocumentState → List Splice → DocumentState → Type 0) : Type 0 where
   pub none : (old new : DocumentState) → layout_and_ranges new ≡ layout_and_ranges old → By old [] new
   pub same : (old new other : DocumentState) (splices : List Splice) → layout_and_ranges other ≡ layout_and_ranges new → By old splices new → By old splices other
   pub two : (old between new : DocumentState) (first second : List Splice) → By old first between → By between second new → By old (first ++ second) new
-  pub one : (document : DocumentState) (splice : Splice) (typed : Bool) (now : ℕ) → Fits document.text splice → SplitsNoRange document.ranges splice
+  pub one : (document : DocumentState) (splice : Splice) (typed : Bool) (now : ℕ) → IsSound document → Fits document.text splice → SplitsNoRange document.ranges splice
       → By document (splice ∷ []) (after_edit document splice typed now)
+  pub forgotten : (old new : DocumentState) → visible new ≡ visible old → new.past_ranges.before ≡ [] → By old [] new
 
 module _ (By : DocumentState → List Splice → DocumentState → Type 0) (by : Reckoning By) where
   -- the relation, and that the new document is sound
@@ -92,7 +94,7 @@ module _ (By : DocumentState → List Splice → DocumentState → Type 0) (by :
 
   pub edited : (document : DocumentState) (splice : Splice) (typed : Bool) (now : ℕ) → IsSound document → Fits document.text splice
       → SplitsNoRange document.ranges splice → Sound document (splice ∷ []) (after_edit document splice typed now)
-  edited document splice typed now h fits whole = (by.one document splice typed now fits whole, sound_edited document splice typed now h fits)
+  edited document splice typed now h fits whole = (by.one document splice typed now h fits whole, sound_edited document splice typed now h fits)
 
   -- the document has another cursor and anchor than after these splices
   pub moved : (old new other : DocumentState) (splices : List Splice) → layout_and_ranges other ≡ layout_and_ranges new → IsSound other
@@ -317,8 +319,7 @@ module _ (By : DocumentState → List Splice → DocumentState → Type 0) (by :
   single_by state true h =
       by_test (From state []) (has_several_lines state) state (made_single state)
       (λ several. kept state.document state.document refl h)
-      (λ one. kept state.document (made_single state).document refl
-      (record { cursor = h.cursor; anchor = h.anchor; ranges = h.ranges; in_order = h.in_order; undo = tt; redo = tt; bounded = omega arith; marks = refl; whole = refl }))
+      (λ one. (by.forgotten state.document (made_single state).document refl refl, sound_forgotten state.document state.document.log.maximum h))
 
   -- ---- in a group of their own
 

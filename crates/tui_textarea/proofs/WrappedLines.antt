@@ -10,7 +10,7 @@ use Rattle.textarea_document.specs.Sound.{IsSound}
 use Rattle.textarea_document.specs.Splices.{redo_splices, undo_splices}
 use Rattle.textarea_document.specs.DocumentState.{DocumentState}
 use Rattle.tui_textarea.proofs.Acting.{Past}
-use Rattle.tui_textarea.proofs.Settling.{LayoutAndRanges, layout_and_ranges}
+use Rattle.tui_textarea.proofs.Settling.{LayoutAndRanges, Visible, layout_and_ranges}
 use Rattle.tui_textarea.proofs.Stepping.{Reckoning}
 
 -- the law of documents for an edit, an undo and a redo
@@ -39,7 +39,8 @@ reckoned cut = record {
   none = λ old new same. ap (λ (s : LayoutAndRanges). s.0) same;
   same = spliced_as;
   two = λ old between new first second h k. spliced_on (text_and_layout old) (text_and_layout between) (text_and_layout new) first second h k;
-  one = λ document splice typed now fits whole. (text_and_layout (after_edit document splice typed now), cut document splice typed now fits, refl);
+  one = λ document splice typed now sound fits whole. (text_and_layout (after_edit document splice typed now), cut document splice typed now fits, refl);
+  forgotten = λ old new same none. ap (λ (s : Visible). s.0) same;
 }
 
 -- ---- calls

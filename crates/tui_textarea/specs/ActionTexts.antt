@@ -1,11 +1,11 @@
 -- What actions leave: the state, made or out of memory; the symbols of the text; what ranges cover;
 -- and the state after inputs at their times.
-use Rattle.std.specs.Prelude.{◌≡◌, ◌⊎◌, ℕ, Bool, true, List, [], ◌∷◌, All, Contains, map, if◌then◌else◌}
+use Rattle.std.specs.Prelude.{◌≡◌, ◌⊎◌, ℕ, Bool, true, List, [], ◌∷◌, All, if◌then◌else◌}
 use Rattle.std.specs.Duration.{as_nanos}
 use Rattle.std.specs.declared.time.Duration.{Duration}
 use Rattle.textarea_data.specs.declared.input.Input.{Input}
-use Rattle.textarea_ranges.specs.Moved.{covered_characters}
-use Rattle.textarea_text.specs.Text.{Symbol, Break, Character, lines}
+use Rattle.textarea_document.specs.Covered.{CoversNoMore, covered, covered_in}
+use Rattle.textarea_text.specs.Text.{Symbol, Break, Character}
 use Rattle.textarea_calls.specs.declared.action.Action.{Action}
 use Rattle.textarea_calls.specs.declared.action.Action.TheVariants as action
 use Rattle.tui_textarea.specs.Edits.{breaks_line}
@@ -39,11 +39,15 @@ InsertsPassing test state other = Unit {0}
 
 -- the characters of each range, in the order of the text
 abbrev pub covered_texts : State → List (List ℕ)
-covered_texts state = map (covered_characters (lines state.document.text)) state.document.ranges
+covered_texts state = covered_in state.document.text state.document.ranges
 
--- what a range of the new state covers, one of the old state covered
+-- the same, and those of each range that is remembered for undo and redo
+abbrev pub known_texts : State → List (List ℕ)
+known_texts state = covered state.document
+
+-- what a range of the new state covers, one that is there or is remembered, one of the old state covered
 abbrev pub CoversAsBefore : State → State → Type 0
-CoversAsBefore old new = All (Contains (covered_texts old)) (covered_texts new)
+CoversAsBefore old new = CoversNoMore old.document new.document
 
 -- ---- inputs at their times
 

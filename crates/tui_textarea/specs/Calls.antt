@@ -10,9 +10,9 @@ use Rattle.textarea_data.specs.declared.range.RejectedAtomicRange.{RejectedAtomi
 use Rattle.textarea_ranges.specs.Lookup.{range_around}
 use Rattle.textarea_ranges.specs.Order.{in_order}
 use Rattle.textarea_ranges.specs.Rejected.{rejected_of}
-use Rattle.textarea_history.specs.Log.{empty_log, newest, next}
+use Rattle.textarea_history.specs.Log.{newest, next}
 use Rattle.textarea_text.specs.Fragment.{fragment_symbols, fragment_text, pasted_symbols}
-use Rattle.textarea_document.specs.DocumentState.{lines_replaced}
+use Rattle.textarea_document.specs.DocumentState.{history_forgotten, lines_replaced, undo_ranges_set}
 use Rattle.textarea_document.specs.Edits.{range_at_cursor, has_symbols}
 use Rattle.textarea_document.specs.Indenting.{indent_splices, lines_indented, lines_outdented, outdent_splices, shifts_lines}
 use Rattle.textarea_document.specs.Moving.{has_line_above, has_line_below, lines_moved_down, lines_moved_up, move_down_splices, move_up_splices}
@@ -127,6 +127,7 @@ result_of_call state call.HardTabIndent = Flag state.settings.hard_tab_indent
 result_of_call state call.MaxHistories = reported.Number state.document.log.maximum
 result_of_call state call.UndoCoalescing = Flag state.settings.undo_coalescing
 result_of_call state call.UndoGrouping = Flag state.settings.undo_grouping
+result_of_call state call.UndoRanges = Flag state.document.past_ranges.on
 result_of_call state call.ReadOnly = Flag state.settings.read_only
 result_of_call state (call.SetSingleLine single_line) = Flag (not (single_line && has_several_lines state))
 result_of_call state call.SingleLine = Flag state.settings.single_line
@@ -205,10 +206,11 @@ unguarded_after state (call.SetMinRows rows) = with_surround state (with_min_row
 unguarded_after state (call.SetMaxRows rows) = with_surround state (with_max_rows state.surround rows)
 unguarded_after state (call.SetHardTabIndent hard) = record state { settings = record state.settings { hard_tab_indent = hard } }
 unguarded_after state (call.SetMaxHistories maximum) =
-    with_document state (record state.document { log = empty_log maximum })
+    with_document state (history_forgotten state.document maximum)
 unguarded_after state (call.SetUndoCoalescing joins) =
     record state { document = record state.document { log = run_ended state.document.log }; settings = record state.settings { undo_coalescing = joins } }
 unguarded_after state (call.SetUndoGrouping groups) = record state { settings = record state.settings { undo_grouping = groups } }
+unguarded_after state (call.SetUndoRanges on) = with_document state (undo_ranges_set state.document on)
 unguarded_after state (call.SetReadOnly read_only) = record state { settings = record state.settings { read_only = read_only } }
 unguarded_after state (call.SetSingleLine single_line) = single_line_set state single_line
 unguarded_after state (call.SetMaxChars maximum) = record state { settings = record state.settings { max_chars = maximum } }

@@ -12,7 +12,6 @@ use Rattle.textarea_data.specs.declared.range.AtomicRange.{AtomicRange}
 use Rattle.textarea_document.specs.DocumentState.{lines_replaced}
 use Rattle.textarea_document.specs.Edits.{range_at_cursor}
 use Rattle.textarea_document.specs.Replacing.{range_splices, replaces}
-use Rattle.textarea_history.specs.Log.{empty_log}
 use Rattle.textarea_search.specs.declared.search.text_matches.TextMatch.{TextMatch}
 use Rattle.textarea_text.specs.Fragment.{fragment_symbols}
 use Rattle.textarea_text.specs.Place.{Place}
@@ -98,7 +97,7 @@ has_several_lines state = nat_lt 1 (length (lines state.document.text))
 -- no edit is remembered, since one may have had a break
 abbrev pub made_single : State → State
 made_single state =
-    record state { document = record state.document { log = empty_log state.document.log.maximum }; settings = record state.settings { single_line = true } }
+    record state { document = history_forgotten state.document state.document.log.maximum; settings = record state.settings { single_line = true } }
 
 abbrev pub single_line_set : State → Bool → State
 single_line_set state true = if has_several_lines state then state else made_single state

@@ -6,7 +6,7 @@ pub use Rattle.textarea_text.specs.Place.{IsPlace, Place, index_of, place_of}
 pub use Rattle.textarea_text.specs.Size.{size_of, weight}
 pub use Rattle.textarea_text.specs.Splice.{CanApply, Fits, Splice}
 pub use Rattle.textarea_text.specs.Text.{Character, lines, lines_of, text_of}
-pub use Rattle.textarea_history.specs.Log.{done_groups, empty_log, newest, next}
+pub use Rattle.textarea_history.specs.Log.{done_groups, newest, next}
 pub use Rattle.textarea_data.specs.declared.cursor.CursorMove.{CursorMove}
 pub use Rattle.textarea_data.specs.declared.cursor.CursorMove.TheVariants.{Down}
 pub use Rattle.textarea_data.specs.declared.scroll.Scrolling.{Scrolling}
@@ -28,11 +28,12 @@ pub use Rattle.textarea_lines.specs.LineWraps.{map_width}
 pub use Rattle.textarea_lines.specs.View.{IsViewOf}
 pub use Rattle.textarea_search.specs.PatternErrors.{IsErrorFor, IsNoSyntaxError, IsOwnFailure, IsPatternFailure}
 pub use Rattle.textarea_search.specs.PlainTexts.{text_pattern}
+pub use Rattle.textarea_document.specs.Covered.{CoversNoMore}
 pub use Rattle.textarea_document.specs.DocumentLaw.{ListsFit, RestoresAll, RestoresDocument}
 pub use Rattle.textarea_document.specs.DocumentRows.{text_and_layout}
 pub use Rattle.textarea_document.specs.ChangesLead.{ChangesLead}
 pub use Rattle.textarea_document.specs.Changes.{change_view}
-pub use Rattle.textarea_document.specs.DocumentState.{changes_taken, lines_replaced}
+pub use Rattle.textarea_document.specs.DocumentState.{changes_taken, history_forgotten, lines_replaced, undo_ranges_set}
 pub use Rattle.textarea_document.specs.DocumentWraps.{SplicedBy, WrapsNothing}
 pub use Rattle.textarea_document.specs.Edits.{has_symbols, range_at_cursor}
 pub use Rattle.textarea_document.specs.Outcomes.{after_edit, after_redo, after_undo, run_ended}
@@ -76,7 +77,7 @@ pub use Rattle.tui_textarea.specs.Moves.{IsMoved, gone_to, IsMovedTo, IsMovedWit
 pub use Rattle.tui_textarea.specs.Outcomes.{IsAfterCall, IsAfterOutOfMemory, IsResultOf, RanOutOfMemory}
 pub use Rattle.tui_textarea.specs.Patterns.{IsNewFailure}
 pub use Rattle.tui_textarea.specs.Ranges.{atomic_range_removed, whole_range_removed, cursor_normalized, ranges_accepted, ranges_cleared}
-pub use Rattle.tui_textarea.specs.RangesOverCalls.{IsUndoOrRedo, RangesFollowCall, RangesOfRun}
+pub use Rattle.tui_textarea.specs.RangesOverCalls.{IsUndoOrRedo, RangesFollowCall, RangesOfRun, SetsRanges}
 pub use Rattle.tui_textarea.specs.Removals.{back_to_word_removed, break_before_removed, has_after, has_ahead, has_before, has_break_before, has_line_after, has_line_before}
 pub use Rattle.tui_textarea.specs.Removals.{has_word_after, has_word_before, index_ahead, line_end_removed, line_head_removed, on_to_word_end_removed, removes_or}
 pub use Rattle.tui_textarea.specs.Removals.{cursor_range_removed_or, symbol_after_removed, symbol_before_removed, symbols_ahead_removed, text_cleared, unselected_or, word_after_removed}

@@ -1,8 +1,9 @@
 -- How the atomic ranges move with the text over calls, and where those after a run come from.
-use Rattle.std.specs.Prelude.{◌≡◌, ◌⊎◌, Bool, true, false, List, [], ◌∷◌, ◌++◌, length, map, take, All, Some}
+use Rattle.std.specs.Prelude.{◌≡◌, ◌≢◌, ◌⊎◌, Bool, true, false, List, [], ◌∷◌, ◌++◌, length, map, take, All, Some}
 use Rattle.textarea_text.specs.Place.{end}
 use Rattle.textarea_text.specs.Splice.{Splice}
-use Rattle.textarea_document.specs.RangesOverSplices.{AllStemFrom, IsCarriedTo, RangesFollowSplices, RangesStayWhole}
+use Rattle.textarea_document.specs.Covered.{CoversNoMore}
+use Rattle.textarea_document.specs.RangesOverSplices.{AllStemFrom, IsCarriedTo, RangesFollowPast, RangesFollowSplices, RangesStayWhole}
 use Rattle.textarea_document.specs.Ranges.{SplitsNoRange}
 use Rattle.textarea_document.specs.Splices.{selected_splices}
 use Rattle.textarea_document.specs.DocumentState.{DocumentState}
@@ -42,12 +43,12 @@ NoRangeUnless true old new = RangesStayWhole old.document [] new.document
 NoRangeUnless false old new = HoldsNoRange new
 
 -- The call's splices lead from the old text to the new one, none if nothing is edited, and the
--- ranges move with the text; only the splices of undo and redo may split a range. New lines, unless
--- they are left out, and the call that clears leave no range, and ranges that are set replace the old
--- ones.
+-- ranges move with the text, over an undo or a redo if none are remembered; only the splices of these
+-- may split a range. New lines, unless they are left out, and the call that clears leave no range, and
+-- ranges that are set replace the old ones.
 abbrev pub RangesFollowCall : State → Call → CallResult → State → Type 0
-RangesFollowCall old Undo returned new = RangesFollowSplices old.document (splices_of old Undo) new.document
-RangesFollowCall old Redo returned new = RangesFollowSplices old.document (splices_of old Redo) new.document
+RangesFollowCall old Undo returned new = RangesFollowPast old.document (splices_of old Undo) new.document
+RangesFollowCall old Redo returned new = RangesFollowPast old.document (splices_of old Redo) new.document
 RangesFollowCall old (Input input) returned new = RangesFollowAction (asked_by input.now) old.document (splices_of old (Input input)) new.document
 RangesFollowCall old (InputWithoutShortcuts input) returned new = RangesFollowAction (asked_without_shortcuts input.now) old.document (splices_of old (InputWithoutShortcuts input)) new.document
 RangesFollowCall old (SetLines lines cursor) returned new = NoRangeUnless (bars_lines old (lines_of lines.now)) old new
@@ -91,83 +92,13 @@ pub record RangesAfterSplices (first : DocumentState) (splices : List CallSplice
 
 -- ---- a run
 
--- the call replaces the ranges: it sets some that are accepted, or clears them, or sets lines, even if
--- they are left out
+-- the call sets the ranges: it sets some that are accepted, or clears them, or sets lines, even if they
+-- are left out
 abbrev pub SetsRanges : Call → CallResult → Type 0
 SetsRanges (TrySetAtomicRanges ranges) Done = Unit {0}
 SetsRanges ClearAtomicRanges returned = Unit {0}
 SetsRanges (SetLines lines cursor) returned = Unit {0}
 SetsRanges call returned = ⊥
-
--- over the call the ranges move as above, and its splices do the rest, or it replaces the ranges
-pub record RangesOverCall (old : State) (call : Call) (returned : CallResult) (new : State) : Type 0 where
-  pub follow : RangesFollowCall old call returned new
-  pub kept : SetsRanges call returned ⊎ RangesAfterSplices old.document (marked_splices old call) new.document
-
--- the calls lead with these results from the old state and buffer to the new ones, and over each
--- call its ranges go so
-abbrev pub RangesOverCalls : State → Buffer → List Call → List CallResult → State → Buffer → Type 0
-RangesOverCalls old buffer [] [] new displayed = (new ≡ old) × (displayed ≡ buffer)
-RangesOverCalls old buffer (call ∷ calls) (returned ∷ results) new displayed =
-    (between : State) × (screen : Buffer) × CallLeads old buffer call returned between screen
-    × RangesOverCall old call returned between × RangesOverCalls between screen calls results new displayed
-RangesOverCalls old buffer calls results new displayed = ⊥
-
--- none of the calls, with these results, replaces the ranges
-abbrev pub NoneSetsRanges : List Call → List CallResult → Type 0
-NoneSetsRanges [] [] = Unit {0}
-NoneSetsRanges (call ∷ calls) (returned ∷ results) = (¬ SetsRanges call returned) × NoneSetsRanges calls results
-NoneSetsRanges calls results = ⊥
-
--- the last of the calls, with these results, replaces the ranges
-pub record LastSetsRanges (calls : List Call) (results : List CallResult) : Type 0 where
-  pub front : List Call
-  pub last : Call
-  pub calls_are : calls ≡ front ++ last ∷ []
-  pub before : List CallResult
-  pub returned : CallResult
-  pub results_are : results ≡ before ++ returned ∷ []
-  pub gives : SetsRanges last returned
-
--- The calls, with these results, lead to the newest state by way of the state after the last call
--- that replaced the ranges, or of the initial state if there is no such call. From there the later
--- calls lead on by these splices.
-pub record SinceRangesSet (old : State) (buffer : Buffer) (calls : List Call) (results : List CallResult) (newest : State) (displayed : Buffer) : Type 0 where
-  pub until : List Call
-  pub later : List Call
-  pub calls_are : calls ≡ until ++ later
-  pub results_until : List CallResult
-  pub results_later : List CallResult
-  pub results_are : results ≡ results_until ++ results_later
-  pub then : State
-  pub screen : Buffer
-  pub led : Leads old buffer until results_until then screen
-  pub ranges_set : (until ≡ []) ⊎ LastSetsRanges until results_until
-  pub none_later : NoneSetsRanges later results_later
-  pub splices : List CallSplice
-  pub led_on : LeadsBy then screen later results_later splices newest displayed
-
--- What happens to the ranges over calls that lead with these results to the newest state, and then
--- over the splices left by a call that ran out of memory, if there is one. Over each call, those
--- that it finds move with the text, unless it sets ranges, clears them or sets lines: its splices
--- take each of them completely or not at all and insert strictly inside none, but for those of an
--- undo or a redo; and one is dropped only by a removal that takes it completely, or by an undo or a
--- redo that disturbs it. Each range at the end comes from those that were set last, or else from
--- those at the start, and covers the same characters as then, all in one line.
-pub record RangesInRun (old : State) (buffer : Buffer) (calls : List Call) (results : List CallResult) (left : List Splice) (new : State) : Type 0 where
-  pub newest : State
-  pub displayed : Buffer
-  pub each : RangesOverCalls old buffer calls results newest displayed
-  pub since : SinceRangesSet old buffer calls results newest displayed
-  pub left_are : (left ≡ []) ⊎ (left ≡ selected_splices newest.document)
-  pub go : RangesAfterSplices since.then.document (since.splices ++ map OfEdit left) new.document
-
--- the same over a run, for the calls that have results
-abbrev pub RangesOfRun : State → Buffer → List Call → List Answer → State → Type 0
-RangesOfRun old buffer calls results new =
-    (left : List Splice) × RangesInRun old buffer (take (length results) calls) (map call_result results) left new
-
--- ---- no call splits a range
 
 -- the call is an undo or a redo, which may split a range
 abbrev pub IsUndoOrRedoAct : Action → Type 0
@@ -181,3 +112,120 @@ IsUndoOrRedo Redo = Unit {0}
 IsUndoOrRedo (Input input) = IsUndoOrRedoAct (asked_by input.now)
 IsUndoOrRedo (InputWithoutShortcuts input) = IsUndoOrRedoAct (asked_without_shortcuts input.now)
 IsUndoOrRedo call = ⊥
+
+-- the call, made in this state, may replace the ranges: it sets them, or is an undo or a redo while
+-- some are remembered
+abbrev pub ReplacesRanges : State → Call → CallResult → Type 0
+ReplacesRanges old call returned = SetsRanges call returned ⊎ (IsUndoOrRedo call × (old.document.past_ranges.before ≢ []))
+
+-- over the call the ranges move as above, and its splices do the rest, or it may replace the ranges;
+-- unless it sets them, what they cover after it, those that are there and those that are remembered,
+-- was covered before
+pub record RangesOverCall (old : State) (call : Call) (returned : CallResult) (new : State) : Type 0 where
+  pub follow : RangesFollowCall old call returned new
+  pub kept : ReplacesRanges old call returned ⊎ RangesAfterSplices old.document (marked_splices old call) new.document
+  pub covers : SetsRanges call returned ⊎ CoversNoMore old.document new.document
+
+-- the calls lead with these results from the old state and buffer to the new ones, and over each
+-- call its ranges go so
+abbrev pub RangesOverCalls : State → Buffer → List Call → List CallResult → State → Buffer → Type 0
+RangesOverCalls old buffer [] [] new displayed = (new ≡ old) × (displayed ≡ buffer)
+RangesOverCalls old buffer (call ∷ calls) (returned ∷ results) new displayed =
+    (between : State) × (screen : Buffer) × CallLeads old buffer call returned between screen
+    × RangesOverCall old call returned between × RangesOverCalls between screen calls results new displayed
+RangesOverCalls old buffer calls results new displayed = ⊥
+
+-- none of the calls, with these results, sets the ranges
+abbrev pub NoneSetsRanges : List Call → List CallResult → Type 0
+NoneSetsRanges [] [] = Unit {0}
+NoneSetsRanges (call ∷ calls) (returned ∷ results) = (¬ SetsRanges call returned) × NoneSetsRanges calls results
+NoneSetsRanges calls results = ⊥
+
+-- none of the calls, which lead with these results from the old state and buffer to the new ones, may
+-- replace the ranges
+abbrev pub NoneReplacesRanges : State → Buffer → List Call → List CallResult → State → Buffer → Type 0
+NoneReplacesRanges old buffer [] [] new displayed = (new ≡ old) × (displayed ≡ buffer)
+NoneReplacesRanges old buffer (call ∷ calls) (returned ∷ results) new displayed =
+    (between : State) × (screen : Buffer) × CallLeads old buffer call returned between screen
+    × (¬ ReplacesRanges old call returned) × NoneReplacesRanges between screen calls results new displayed
+NoneReplacesRanges old buffer calls results new displayed = ⊥
+
+-- the last of the calls, with these results, sets the ranges
+pub record LastSetsRanges (calls : List Call) (results : List CallResult) : Type 0 where
+  pub front : List Call
+  pub last : Call
+  pub calls_are : calls ≡ front ++ last ∷ []
+  pub before : List CallResult
+  pub returned : CallResult
+  pub results_are : results ≡ before ++ returned ∷ []
+  pub gives : SetsRanges last returned
+
+-- the last of the calls, made in this state with these results, may replace the ranges
+pub record LastReplacesRanges (old : State) (buffer : Buffer) (calls : List Call) (results : List CallResult) : Type 0 where
+  pub front : List Call
+  pub last : Call
+  pub calls_are : calls ≡ front ++ last ∷ []
+  pub before : List CallResult
+  pub returned : CallResult
+  pub results_are : results ≡ before ++ returned ∷ []
+  pub prior : State
+  pub screen : Buffer
+  pub led : Leads old buffer front before prior screen
+  pub gives : ReplacesRanges prior last returned
+
+-- The calls, with these results, lead to the newest state by way of the state after the last call
+-- that set the ranges, or of the initial state if there is no such call. From there the later calls
+-- lead on.
+pub record SinceRangesSet (old : State) (buffer : Buffer) (calls : List Call) (results : List CallResult) (newest : State) (displayed : Buffer) : Type 0 where
+  pub until : List Call
+  pub later : List Call
+  pub calls_are : calls ≡ until ++ later
+  pub results_until : List CallResult
+  pub results_later : List CallResult
+  pub results_are : results ≡ results_until ++ results_later
+  pub then : State
+  pub screen : Buffer
+  pub led : Leads old buffer until results_until then screen
+  pub ranges_set : (until ≡ []) ⊎ LastSetsRanges until results_until
+  pub none_later : NoneSetsRanges later results_later
+  pub led_on : Leads then screen later results_later newest displayed
+
+-- The same by way of the state after the last call that may have replaced the ranges. From there the
+-- later calls lead on by these splices.
+pub record SinceRangesReplaced (old : State) (buffer : Buffer) (calls : List Call) (results : List CallResult) (newest : State) (displayed : Buffer) : Type 0 where
+  pub until : List Call
+  pub later : List Call
+  pub calls_are : calls ≡ until ++ later
+  pub results_until : List CallResult
+  pub results_later : List CallResult
+  pub results_are : results ≡ results_until ++ results_later
+  pub then : State
+  pub screen : Buffer
+  pub led : Leads old buffer until results_until then screen
+  pub replaced : (until ≡ []) ⊎ LastReplacesRanges old buffer until results_until
+  pub none_later : NoneReplacesRanges then screen later results_later newest displayed
+  pub splices : List CallSplice
+  pub led_on : LeadsBy then screen later results_later splices newest displayed
+
+-- What happens to the ranges over calls that lead with these results to the newest state, and then
+-- over the splices left by a call that ran out of memory, if there is one. Over each call, those
+-- that it finds move with the text, unless it sets ranges, clears them or sets lines, or is an undo or
+-- a redo while some are remembered: its splices take each of them completely or not at all and insert
+-- strictly inside none, but for those of an undo or a redo; and one is dropped only by a removal that
+-- takes it completely, or by an undo or a redo that disturbs it. Each range at the end, and each that
+-- is remembered, covers the characters that one of those covered that were set last, or else of those
+-- at the start. It comes from one that was there after the last call that may have replaced them.
+pub record RangesInRun (old : State) (buffer : Buffer) (calls : List Call) (results : List CallResult) (left : List Splice) (new : State) : Type 0 where
+  pub newest : State
+  pub displayed : Buffer
+  pub each : RangesOverCalls old buffer calls results newest displayed
+  pub since : SinceRangesReplaced old buffer calls results newest displayed
+  pub left_are : (left ≡ []) ⊎ (left ≡ selected_splices newest.document)
+  pub go : RangesAfterSplices since.then.document (since.splices ++ map OfEdit left) new.document
+  pub since_set : SinceRangesSet old buffer calls results newest displayed
+  pub covers : CoversNoMore since_set.then.document new.document
+
+-- the same over a run, for the calls that have results
+abbrev pub RangesOfRun : State → Buffer → List Call → List Answer → State → Type 0
+RangesOfRun old buffer calls results new =
+    (left : List Splice) × RangesInRun old buffer (take (length results) calls) (map call_result results) left new

@@ -9,7 +9,7 @@ ghost use Rattle.tui_textarea.specs.ActionTexts.{AllPass, CoversAsBefore, Insert
 ghost use Rattle.tui_textarea.specs.Prelude.{Action, IsSound, State};
 
 use crate::laws::one_input;
-use textarea_document::laws::ranges_follow_splices;
+use textarea_document::laws::{ranges_cover_no_more, ranges_follow_splices};
 
 /// Each symbol of the text after an action was in the text before, or the action inserted it: if all
 /// symbols passed a test, and those that the action inserts do, all pass it after the action. So no
@@ -23,14 +23,15 @@ pub fn symbols_stay_or_are_inserted()
     ranges_follow_splices();
 }
 
-/// The characters that a range covers after an action are those that a range covered before it, also
-/// after an action that ran out of memory. So a range that marks a name or a link is kept with all
-/// its characters, or is gone.
+/// The characters that a range covers after an action, one that is there or that is remembered for
+/// undo and redo, are those that such a range covered before it, also after an action that ran out of
+/// memory. So a range that marks a name or a link is kept with all its characters, or is gone, or is
+/// given back.
 pub fn ranges_cover_as_before()
     ensures { (old new : State) (asked : Action) → IsSound old.document →
         IsLeftByAction old asked new → CoversAsBefore old new }
 {
-    ranges_follow_splices();
+    ranges_cover_no_more();
 }
 
 /// Inputs, each made at its time, lead from one state to one state: a replay on a copy gives what was

@@ -37,6 +37,7 @@ pub fn call(area: &mut TextArea, name: &str, words: &str) -> Option<&'static str
         "set_max_histories" => done(area.set_max_histories(words.parse().ok()?)),
         "set_undo_coalescing" => done(area.set_undo_coalescing(words.parse().ok()?)),
         "set_undo_grouping" => done(area.set_undo_grouping(words.parse().ok()?)),
+        "set_undo_ranges" => done(area.set_undo_ranges(words.parse().ok()?)),
         "begin_undo_group" => done(area.begin_undo_group()),
         "end_undo_group" => done(area.end_undo_group()),
         "end_run" => done(area.end_run()),

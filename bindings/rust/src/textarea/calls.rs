@@ -409,6 +409,27 @@ impl TextArea<'_> {
             .is(|h| unsafe { sys::ta_set_undo_grouping(h, groups) });
     }
 
+    /// Sets whether atomic ranges are remembered for undo and redo. Then an undo of an edit, or of
+    /// a group of edits, leaves exactly the ranges that were there before it, and a redo those
+    /// after it: a range that was removed is there again. Where ranges were set or cleared since
+    /// the edit, or this was off, they move with the text instead. Each edit takes a copy of the
+    /// ranges. Off at first.
+    ///
+    /// ```
+    /// use tui_textarea::TextArea;
+    ///
+    /// let mut area = TextArea::from(["@one two"]);
+    /// let range = tui_textarea::AtomicRange { row: 0, start_col: 0, end_col: 4 };
+    /// area.set_atomic_ranges([range]);
+    /// area.set_undo_ranges(true);
+    /// area.delete_next_char(); // removes the whole range
+    /// assert!(area.undo());
+    /// assert_eq!(area.atomic_ranges(), [range]);
+    /// ```
+    pub fn set_undo_ranges(&mut self, on: bool) {
+        self.core.is(|h| unsafe { sys::ta_set_undo_ranges(h, on) });
+    }
+
     /// Begins a group, if none is open, and ends a run of typing. The edits until `end_undo_group`
     /// are undone and redone together. If they are more than are remembered, all edits are
     /// forgotten.
@@ -869,6 +890,18 @@ impl TextArea<'_> {
     /// ```
     pub fn undo_grouping(&self) -> bool {
         self.core.is(|h| unsafe { sys::ta_undo_grouping(h) })
+    }
+
+    /// Returns whether atomic ranges are remembered for undo and redo.
+    ///
+    /// ```
+    /// use tui_textarea::TextArea;
+    ///
+    /// let area = TextArea::from(["one"]);
+    /// assert!(!area.undo_ranges());
+    /// ```
+    pub fn undo_ranges(&self) -> bool {
+        self.core.is(|h| unsafe { sys::ta_undo_ranges(h) })
     }
 
     /// Returns whether the text area is read only.

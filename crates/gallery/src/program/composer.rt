@@ -7,7 +7,7 @@
 //! - An atomic range makes characters a token: the cursor jumps over it, and a deletion takes it
 //!   whole. Ranges move with the text.
 //! - After any inputs each token covers a whole name, never a part of one: this is proved.
-//! - Undo brings the text of a deleted mention back, but not its token.
+//! - By `set_undo_ranges` an undo brings a deleted mention back, if none was added since.
 //! - Custom highlights don't move with the text, so `draw` sets them again from the ranges. They
 //!   are in bytes, ranges in characters.
 //!
@@ -34,6 +34,7 @@ impl Composer {
         let mut area = TextArea::try_default(alloc)?;
         area.set_block(Block::bordered());
         area.set_cursor_line_style(Style::new());
+        area.set_undo_ranges(true);
         Ok(Composer { alloc, area })
     }
 

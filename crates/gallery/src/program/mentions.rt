@@ -4,8 +4,9 @@ ghost use Rattle.gallery.specs.Mentions.{AreWhole, names};
 
 use crate::program::byte_of;
 use std::alloc::{AllocError, Global};
+use tui_textarea::input_laws::ranges_cover_as_before;
 use tui_textarea::laws::is_sound;
-use tui_textarea::outcomes::laws::{ranges_follow_each_call, splices_split_no_range};
+use tui_textarea::outcomes::laws::{ranges_cover_no_more, splices_split_no_range};
 use tui_textarea::{AtomicRange, AtomicRangeError, Input, Style, TextArea};
 
 /// Returns one of the names, by turns.
@@ -38,7 +39,7 @@ pub fn mention(
     ensures { AreWhole area.old → AreWhole area.new }
 {
     is_sound(area);
-    ranges_follow_each_call();
+    ranges_cover_no_more();
     splices_split_no_range();
     if !takes_whole_names(area) {
         return Ok(Ok(()));
@@ -61,7 +62,7 @@ pub fn edit(area: &mut TextArea<'_>, input: Input) -> Result<(), AllocError>
     ensures { AreWhole area.old → AreWhole area.new }
 {
     is_sound(area);
-    ranges_follow_each_call();
+    ranges_cover_as_before();
     area.input(input)?;
     Ok(())
 }

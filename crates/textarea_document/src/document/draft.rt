@@ -3,6 +3,7 @@ ghost use Rattle.std.specs.Prelude.{◌≡◌, OnOk, OnErr};
 ghost use Rattle.textarea_document.specs.Prelude.{edit_redone, edit_undone, times};
 
 use crate::document::changes::ChangeLog;
+use crate::document::range_history::RangeHistory;
 use crate::document::undo::{redo_edit, undo_edit};
 use std::alloc::AllocError;
 use std::marker::Model;
@@ -19,10 +20,12 @@ pub(crate) struct Draft {
     pub(crate) ranges: Vec<AtomicRange>,
     pub(crate) history: History,
     pub(crate) changes: ChangeLog,
+    pub(crate) range_history: RangeHistory,
 }
 
 impl Model for Draft {
     ghost use Rattle.textarea_document.specs.ChangeLog.{changes_of};
+    ghost use Rattle.textarea_document.specs.RangeHistory.{past_of};
     ghost use Rattle.textarea_document.specs.DocumentState.{DocumentState, document_of};
 
     ghost Value = { DocumentState };
@@ -31,11 +34,11 @@ impl Model for Draft {
 
     ghost view = { λ draft.
         document_of draft.text_layout draft.cursor draft.anchor draft.ranges.items
-        draft.history.log (changes_of draft.changes) };
+        draft.history.log (changes_of draft.changes) (past_of draft.range_history) };
 
     ghost invariant = { λ draft. IsSoundInside
         (document_of draft.text_layout draft.cursor draft.anchor draft.ranges.items
-        draft.history.log (changes_of draft.changes)) };
+        draft.history.log (changes_of draft.changes) (past_of draft.range_history)) };
 }
 
 impl Draft {
@@ -71,6 +74,7 @@ impl Draft {
             &mut self.ranges,
             &mut self.history,
             &mut self.changes,
+            &self.range_history,
         )
     }
 
@@ -86,6 +90,7 @@ impl Draft {
             &mut self.ranges,
             &mut self.history,
             &mut self.changes,
+            &self.range_history,
         )
     }
 }

@@ -86,6 +86,7 @@ impl Document {
             ranges: self.ranges.clone()?,
             history: self.history.clone()?,
             changes: self.changes.emptied(),
+            range_history: self.range_history.copied()?,
         })
     }
 
@@ -103,6 +104,7 @@ impl Document {
             ranges,
             history,
             changes,
+            range_history,
         } = draft;
         self.changes.append(changes)?;
         self.text_layout = text_layout;
@@ -110,6 +112,7 @@ impl Document {
         self.anchor = anchor;
         self.ranges = ranges;
         self.history = history;
+        self.range_history = range_history;
         Ok(())
     }
 }

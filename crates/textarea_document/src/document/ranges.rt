@@ -26,7 +26,8 @@ impl Document {
 
     /// Replaces the atomic ranges if they are valid for the text; otherwise returns the rejected
     /// ones, and changes nothing. A cursor strictly inside a range moves to its end, a selection's
-    /// beginning to its start, and a selection that is empty after that is dropped.
+    /// beginning to its start, and a selection that is empty after that is dropped. No ranges are
+    /// remembered from before.
     pub fn try_set_ranges(
         &mut self,
         ranges: Vec<AtomicRange>,
@@ -60,13 +61,15 @@ impl Document {
         self.cursor = cursor;
         self.anchor = unless_empty(anchor, cursor);
         self.ranges = ranges;
+        self.range_history.forget();
     }
 
-    /// Drops all atomic ranges; all else stays.
+    /// Drops all atomic ranges, and those that are remembered; all else stays.
     pub fn clear_ranges(&mut self)
         ensures { self.new ≡ ranges_forgotten self.old }
     {
         self.ranges.clear();
+        self.range_history.forget();
     }
 
     /// Moves a cursor strictly inside an atomic range to its start for Backward, to its end for

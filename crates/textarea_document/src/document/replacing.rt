@@ -215,6 +215,7 @@ impl Document {
             ranges,
             history,
             changes,
+            range_history,
         } = other;
         self.text_layout = text_layout;
         self.cursor = cursor;
@@ -222,6 +223,7 @@ impl Document {
         self.ranges = ranges;
         self.history = history;
         self.changes = changes;
+        self.range_history = range_history;
     }
 }
 

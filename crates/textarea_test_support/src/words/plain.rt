@@ -18,6 +18,7 @@ pub(super) fn reading<'a>(name: &str) -> Option<Call<'a>>
         "max_histories" => Some(Call::MaxHistories),
         "undo_coalescing" => Some(Call::UndoCoalescing),
         "undo_grouping" => Some(Call::UndoGrouping),
+        "undo_ranges" => Some(Call::UndoRanges),
         "read_only" => Some(Call::ReadOnly),
         "single_line" => Some(Call::SingleLine),
         "max_chars" => Some(Call::MaxChars),

@@ -5,7 +5,7 @@ ghost use Rattle.textarea_document.specs.Indenting.{line_stretches};
 ghost use Rattle.tui_textarea.specs.CallUnits.{TakesParts};
 ghost use Rattle.tui_textarea.specs.Replacing.{replaceable};
 ghost use Rattle.tui_textarea.specs.Units.{AreWholeStretches, FirstTakesWhole, GoesByClusters};
-ghost use Rattle.tui_textarea.specs.Prelude.{Answer, CanApply, CanBeMade, ChangesFollow, ChangesLead, ChangesOfRun, SetsLines, SetsLog, taken_by, RangesOfRun, Run, SplicedBy, SplitNoRange, RangesStayWhole, IsSettled, IsSound, Buffer, State, WrapsByCall, Call, RangesFollowCall, IsUndoOrRedo, IsResultOf, IsAfterCall, IsAfterOutOfMemory, Leads, ShowsSame, CallResult, OfSplicesOutOfMemory, edits, is_editable, splices_of};
+ghost use Rattle.tui_textarea.specs.Prelude.{Answer, CanApply, CanBeMade, CoversNoMore, SetsRanges, ChangesFollow, ChangesLead, ChangesOfRun, SetsLines, SetsLog, taken_by, RangesOfRun, Run, SplicedBy, SplitNoRange, RangesStayWhole, IsSettled, IsSound, Buffer, State, WrapsByCall, Call, RangesFollowCall, IsUndoOrRedo, IsResultOf, IsAfterCall, IsAfterOutOfMemory, Leads, ShowsSame, CallResult, OfSplicesOutOfMemory, edits, is_editable, splices_of};
 
 use crate::drawing::laws::{one_drawing, one_rendering};
 use crate::laws::{one_input, one_move};
@@ -70,8 +70,8 @@ pub fn count_never_falls()
 }
 
 /// How the atomic ranges move over each call, in every state that a text area has: with the text,
-/// over the call's splices, which lead from the old text to the new one; only those of undo and
-/// redo may split a range. New lines and the call that clears the ranges leave none, and accepted
+/// over the call's splices, which lead from the old text to the new one, but over those of an undo or
+/// a redo only if no ranges are remembered; only these may split a range. New lines and the call that clears the ranges leave none, and accepted
 /// ranges replace the old ones. A call that runs out of memory has made no splice, or only the one
 /// that removes the selected text.
 pub fn ranges_follow_each_call()
@@ -83,6 +83,19 @@ pub fn ranges_follow_each_call()
         OfSplicesOutOfMemory old (λ splices. RangesStayWhole old.document splices new.document) }
 {
     ranges_follow_splices();
+}
+
+/// What the atomic ranges cover over each call that doesn't set them, in every state that a text area
+/// has: each range after it, one that is there or that is remembered for undo and redo, covers
+/// characters that such a range covered before. So each stems from the last ones that were set.
+pub fn ranges_cover_no_more()
+    ensures made { (old new : State) (call : Call) (returned : CallResult) → IsSound old.document →
+        ¬ SetsRanges call returned → IsResultOf old call returned →
+        IsAfterCall old call returned new → CoversNoMore old.document new.document }
+    ensures out_of_memory { (old new : State) (call : Call) → IsSound old.document →
+        IsAfterOutOfMemory old call new → CoversNoMore old.document new.document }
+{
+    textarea_document::laws::ranges_cover_no_more();
 }
 
 /// In every state that a text area has, the splices of each call fit the text, one after another.
@@ -163,10 +176,11 @@ pub fn each_call_stays_sound()
 }
 
 /// What happens to the atomic ranges over every run of calls that can be made, from every state
-/// that a text area has. Each range at the end comes from those that were set last, or from those at
-/// the start, and covers the same characters as then, all in one line. Only an undo or a redo splits
-/// a range. A range is dropped only by a removal that takes it completely, by an undo or a redo that
-/// disturbs it, by new lines, by the call that clears ranges, and by new ranges.
+/// that a text area has. Each range at the end covers the same characters as one of those that were
+/// set last, or of those at the start. It comes from one that was there then, or that an undo or a redo
+/// gave back. Only an undo or a redo splits a range. A range is dropped only by a removal that takes it
+/// completely, by an undo or a redo that disturbs it, or that gives others back, by new lines, by the
+/// call that clears ranges, and by new ranges.
 pub fn ranges_follow_each_run()
     ensures { (calls : List Call) (answers : List Answer) (refused : Option ℕ) (old new : State)
         (buffer displayed : Buffer) → IsSound old.document → All CanBeMade calls →
@@ -174,6 +188,7 @@ pub fn ranges_follow_each_run()
         RangesOfRun old buffer calls answers new }
 {
     ranges_follow_each_call();
+    ranges_cover_no_more();
     each_call_stays_sound();
 }
 

@@ -1,7 +1,7 @@
 //! Atomic ranges: spans of characters in a line that are edited as a whole.
 ghost use Rattle.std.specs.Prelude.{◌≡◌, IfOk, IsOk, MatchResult, None, OnErr, OnOk, is_some};
 ghost use Rattle.textarea_data.specs.declared.range.AtomicCursorBias.TheVariants.{Forward};
-ghost use Rattle.tui_textarea.specs.Prelude.{lines, range_around, AreInOrder, AreRejected, AreValid, range_at_cursor, cursor_normalized, atomic_range_removed, ranges_accepted, ranges_cleared, removable_range, settled, unless_read_only};
+ghost use Rattle.tui_textarea.specs.Prelude.{lines, range_around, AreInOrder, AreRejected, AreValid, range_at_cursor, cursor_normalized, atomic_range_removed, ranges_accepted, ranges_cleared, removable_range, settled, undo_ranges_set, unless_read_only, with_document};
 
 use crate::textarea::TextArea;
 use std::alloc::AllocError;
@@ -14,7 +14,8 @@ impl TextArea<'_> {
     /// character, within one line, and no two share a character. A cursor strictly inside a range
     /// moves to its end, a selection's beginning to its start, and a selection that is empty after
     /// that is dropped. Ranges move with the text at each edit, undo and redo: a removal drops
-    /// those that it removes, an undo or redo also those that it splits.
+    /// those that it removes, an undo or redo also those that it splits, unless ranges are
+    /// remembered (`set_undo_ranges`). None are remembered from before.
     pub fn set_atomic_ranges(&mut self, ranges: Vec<AtomicRange>) -> Result<(), AllocError>
         requires valid { AreValid (lines self.old.document.text) ranges.items }
         ensures ok { OnOk result
@@ -58,7 +59,7 @@ impl TextArea<'_> {
         }
     }
 
-    /// Drops all atomic ranges.
+    /// Drops all atomic ranges, and those that are remembered for undo and redo.
     pub fn clear_atomic_ranges(&mut self)
         ensures { self.new ≡ ranges_cleared self.old }
     {
@@ -72,6 +73,25 @@ impl TextArea<'_> {
         ensures in_order { AreInOrder result.now }
     {
         self.document.ranges()
+    }
+
+    /// Sets whether atomic ranges are remembered for undo and redo. Then an undo of an edit, or of a
+    /// group of edits, leaves exactly the ranges that were there before it, and a redo those after it:
+    /// a range that was removed is there again. Where ranges were set or cleared since the edit, or
+    /// this was off, they move with the text instead. Each edit that joins no other takes a copy of
+    /// the ranges. Off at first.
+    pub fn set_undo_ranges(&mut self, undo_ranges: bool)
+        ensures { self.new
+            ≡ with_document self.old (undo_ranges_set self.old.document undo_ranges) }
+    {
+        self.document.set_undo_ranges(undo_ranges);
+    }
+
+    /// Returns whether atomic ranges are remembered for undo and redo.
+    pub fn undo_ranges(&self) -> bool
+        ensures { result ≡ self.now.document.past_ranges.on }
+    {
+        self.document.undo_ranges()
     }
 
     /// Moves a cursor strictly inside an atomic range to its start for Backward, to its end for

@@ -1,7 +1,7 @@
 //! The settings.
 ghost use Rattle.std.specs.Prelude.{◌≡◌, ◌<◌, ◌≤◌, ◌+◌, length, [], ◌∷◌};
 ghost use Rattle.std.specs.Duration.{as_nanos};
-ghost use Rattle.tui_textarea.specs.Prelude.{empty_log, run_ended, default_settings, with_document, indent_of};
+ghost use Rattle.tui_textarea.specs.Prelude.{history_forgotten, run_ended, default_settings, with_document, indent_of};
 
 use crate::textarea::TextArea;
 use std::time::Duration;
@@ -91,10 +91,11 @@ impl TextArea<'_> {
         self.settings.undo_coalescing
     }
 
-    /// Forgets all edits, and remembers at most this number from now on, done and undone together.
+    /// Forgets all edits, with the ranges before them, and remembers at most this number from now on,
+    /// done and undone together.
     pub fn set_max_histories(&mut self, max_histories: usize)
         ensures { self.new
-            ≡ with_document self.old (record self.old.document { log = empty_log max_histories }) }
+            ≡ with_document self.old (history_forgotten self.old.document max_histories) }
     {
         self.document.set_max_histories(max_histories);
     }

@@ -78,6 +78,24 @@ pub extern "C" fn ta_set_undo_grouping(handle: &mut Handle, alloc: Global, group
     })
 }
 
+/// Sets whether atomic ranges are remembered for undo and redo. Then an undo of an edit, or of a
+/// group of edits, leaves exactly the ranges that were there before it, and a redo those after it:
+/// a range that was removed is there again. Where ranges were set or cleared since the edit, or
+/// this was off, they move with the text instead. Each edit takes a copy of the ranges. Off at
+/// first.
+///
+/// Statuses: ok, empty handle.
+#[unsafe(no_mangle)]
+pub extern "C" fn ta_set_undo_ranges(handle: &mut Handle, alloc: Global, on: bool) -> u32
+    ensures { Calls handle.old.stored.content result handle.new.stored.content
+        (λ a b. MakesSetting (call.SetUndoRanges on) result a b) }
+{
+    on!(handle, alloc, editor => {
+        editor.area.set_undo_ranges(on);
+        OK
+    })
+}
+
 /// Begins a group, if none is open, and ends a run of typing. The edits until `ta_end_undo_group`
 /// are undone and redone together. If they are more than are remembered, all edits are forgotten.
 ///
@@ -166,4 +184,15 @@ pub extern "C" fn ta_undo_grouping(handle: &mut Handle, alloc: Global) -> u32
         (λ a b. Answers (flag_of (result_of_call a.area call.UndoGrouping)) result a b) }
 {
     on!(handle, alloc, editor => truth(editor.area.undo_grouping()))
+}
+
+/// Returns whether atomic ranges are remembered for undo and redo.
+///
+/// Statuses: ok (true), false, empty handle.
+#[unsafe(no_mangle)]
+pub extern "C" fn ta_undo_ranges(handle: &mut Handle, alloc: Global) -> u32
+    ensures { Calls handle.old.stored.content result handle.new.stored.content
+        (λ a b. Answers (flag_of (result_of_call a.area call.UndoRanges)) result a b) }
+{
+    on!(handle, alloc, editor => truth(editor.area.undo_ranges()))
 }

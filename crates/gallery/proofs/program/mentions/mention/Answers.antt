@@ -4,7 +4,6 @@ use Rattle.std.proofs.lemmas.Bool.{cond-false}
 use Rattle.textarea_data.specs.declared.range.AtomicRange.{AtomicRange}
 use Rattle.textarea_calls.specs.declared.call.Call.TheVariants as call
 use Rattle.tui_textarea.specs.Calls.{result_of_call}
-use Rattle.tui_textarea.specs.CallSplices.{splices_of}
 use Rattle.textarea_text.specs.Fragment.{fragment_symbols}
 use Rattle.textarea_text.specs.Splice.{CanApply, Splice}
 use Rattle.tui_textarea.specs.Edits.{str_inserted}
@@ -12,31 +11,28 @@ use Rattle.tui_textarea.specs.Guards.{admitted_over_selection}
 use Rattle.tui_textarea.specs.Ranges.{ranges_accepted}
 use Rattle.tui_textarea.specs.Splices.{str_splices}
 use Rattle.gallery.specs.Mentions.{AreWhole}
-use Rattle.gallery.proofs.Tokens.{covers_mention, name_admitted, takes_whole_names, whole_if_set, whole_out_of_memory, whole_over, whole_with}
+use Rattle.gallery.proofs.Tokens.{covers_mention, name_admitted, takes_whole_names, whole_if_set, whole_over, whole_with}
 use Rattle.gallery.proofs.program.mentions.mention.Goals as goal
 
 pub returns-in_err-insert_str : goal.returns-in_err-insert_str
 returns-in_err-insert_str c whole =
     let old = c.args.area.now in
     let new = c.insert_str.new.self in
-    let sound = c.is_sound.ensures in
-    whole_out_of_memory old new sound (c.ranges_follow_each_call.ensures.out_of_memory old new (call.InsertStr c.args.name) sound c.in_err-insert_str.ensures.err) whole
+    whole_over old new (c.ranges_cover_no_more.ensures.out_of_memory old new (call.InsertStr c.args.name) c.is_sound.ensures c.in_err-insert_str.ensures.err) whole
 
 pub returns-in_err-ranges : goal.returns-in_err-ranges
 returns-in_err-ranges c whole =
     let old = c.args.area.now in
     let made = call.InsertStr c.args.name in
-    let sound = c.is_sound.ensures in
-    whole_over old c.insert_str.new.self (splices_of old made) sound
-    (c.ranges_follow_each_call.ensures.made old c.insert_str.new.self made (result_of_call old made) sound refl c.in_ok-insert_str.ensures.ok).0 whole
+    whole_over old c.insert_str.new.self
+    (c.ranges_cover_no_more.ensures.made old c.insert_str.new.self made (result_of_call old made) c.is_sound.ensures (λ sets. sets) refl c.in_ok-insert_str.ensures.ok) whole
 
 pub returns-in_err-push : goal.returns-in_err-push
 returns-in_err-push c whole =
     let old = c.args.area.now in
     let made = call.InsertStr c.args.name in
-    let sound = c.is_sound.ensures in
-    whole_over old c.insert_str.new.self (splices_of old made) sound
-    (c.ranges_follow_each_call.ensures.made old c.insert_str.new.self made (result_of_call old made) sound refl c.in_ok-insert_str.ensures.ok).0 whole
+    whole_over old c.insert_str.new.self
+    (c.ranges_cover_no_more.ensures.made old c.insert_str.new.self made (result_of_call old made) c.is_sound.ensures (λ sets. sets) refl c.in_ok-insert_str.ensures.ok) whole
 
 pub returns : goal.returns
 returns c whole =
@@ -45,7 +41,7 @@ returns c whole =
     let made = call.InsertStr c.args.name in
     let sound = c.is_sound.ensures in
     let mid_whole =
-    whole_over old mid (splices_of old made) sound (c.ranges_follow_each_call.ensures.made old mid made (result_of_call old made) sound refl c.in_ok-insert_str.ensures.ok).0 whole in
+    whole_over old mid (c.ranges_cover_no_more.ensures.made old mid made (result_of_call old made) sound (λ sets. sets) refl c.in_ok-insert_str.ensures.ok) whole in
     let name = c.args.name.now in
     let symbols = fragment_symbols (chars name) in
     let takes = takes_whole_names old (sym c.takes_whole_names.ensures ∙ c.if-not-takes_whole_names.false) in

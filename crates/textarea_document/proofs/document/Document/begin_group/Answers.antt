@@ -1,5 +1,6 @@
 use Rattle.std.proofs.Common.{sym, subst}
 use Rattle.textarea_document.specs.ChangeLog.{changes_of}
+use Rattle.textarea_document.specs.RangeHistory.{past_of}
 use Rattle.textarea_document.specs.Prelude.{IsSound, Log, document_of}
 use Rattle.textarea_document.proofs.Sounds.{sound_begun}
 use Rattle.textarea_document.proofs.document.Document.begin_group.Goals as goal
@@ -7,5 +8,5 @@ use Rattle.textarea_document.proofs.document.Document.begin_group.Goals as goal
 pub invariant_of-self : goal.invariant_of-self
 invariant_of-self c =
     let inside = c.self.inside in
-    subst (λ (l : Log). IsSound (document_of inside.text_layout inside.cursor inside.anchor inside.ranges.items l (changes_of inside.changes))) (sym c.begin_group.ensures)
-    (sound_begun (document_of inside.text_layout inside.cursor inside.anchor inside.ranges.items inside.history.log (changes_of inside.changes)) c.self.invariant)
+    subst (λ (l : Log). IsSound (document_of inside.text_layout inside.cursor inside.anchor inside.ranges.items l (changes_of inside.changes) (past_of inside.range_history))) (sym c.begin_group.ensures)
+    (sound_begun (document_of inside.text_layout inside.cursor inside.anchor inside.ranges.items inside.history.log (changes_of inside.changes) (past_of inside.range_history)) c.self.invariant)

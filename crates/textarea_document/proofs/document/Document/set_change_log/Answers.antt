@@ -1,4 +1,5 @@
 use Rattle.textarea_document.specs.ChangeLog.{changes_of}
+use Rattle.textarea_document.specs.RangeHistory.{past_of}
 use Rattle.textarea_document.specs.Prelude.{document_of}
 use Rattle.textarea_document.proofs.Sounds.{sound_changes}
 use Rattle.textarea_document.proofs.document.Document.set_change_log.Goals as goal
@@ -6,4 +7,4 @@ use Rattle.textarea_document.proofs.document.Document.set_change_log.Goals as go
 pub invariant_of-self : goal.invariant_of-self
 invariant_of-self c =
     let inside = c.self.inside in
-    sound_changes (document_of inside.text_layout inside.cursor inside.anchor inside.ranges.items inside.history.log (changes_of inside.changes)) (changes_of c.new-log.result) c.self.invariant
+    sound_changes (document_of inside.text_layout inside.cursor inside.anchor inside.ranges.items inside.history.log (changes_of inside.changes) (past_of inside.range_history)) (changes_of c.new-log.result) c.self.invariant

@@ -1,11 +1,14 @@
 use Rattle.std.proofs.Common.{sym, subst}
-use Rattle.textarea_document.specs.Prelude.{IfSome, lines, IsPlace, AreValid, unless_empty, DocumentState}
+use Rattle.textarea_document.specs.RangeHistory.{past_of}
+use Rattle.textarea_document.specs.Prelude.{ArePastRanges, texts_before, IfSome, lines, IsPlace, AreValid, unless_empty, DocumentState}
 use Rattle.textarea_document.proofs.Ranges.{apart_slice, anchor_place}
+use Rattle.textarea_document.proofs.Sounds.{none_past}
 use Rattle.textarea_document.proofs.document.Document.store_ranges.Goals as goal
 
 pub invariant_of-self : goal.invariant_of-self
 invariant_of-self c =
     let text = c.self.inside.text_layout.text in
+    let log = c.self.inside.history.log in
     let supplied = c.args.ranges.items in
     let valid : AreValid (lines text) supplied = subst (λ (s : DocumentState). AreValid (lines s.text) supplied) (sym c.self.view_is) c.requires.valid in
     let first : AreValid (lines text) c.as_slice-stored.result.now = subst (AreValid (lines text)) (sym c.as_slice-stored.ensures.value) valid in
@@ -22,6 +25,7 @@ invariant_of-self c =
       bounded = old.bounded;
       marks = old.marks;
       whole = old.whole;
+      past = subst (ArePastRanges (texts_before text log.done log.undone)) (sym c.forget.ensures) (none_past text log.done log.undone (past_of c.self.inside.range_history).on);
     }
 
 pub move_out-cursor-requires : goal.move_out-cursor-requires

@@ -1,6 +1,7 @@
 use Rattle.std.proofs.Common.{◌≡◌, ◌∙◌, is_some, sym, ap}
 use Rattle.std.proofs.lemmas.Result.{IfOk-weaker, on_err_weaker, on_ok_weaker}
 use Rattle.textarea_document.specs.ChangeLog.{changes_of}
+use Rattle.textarea_document.specs.RangeHistory.{past_of}
 use Rattle.textarea_document.specs.Prelude.{OnOk, IsSound, DocumentState, document_of, after_undo, edit_undone, newest, newest_group, times}
 use Rattle.textarea_document.proofs.Sounds.{after_step, sound_inside}
 use Rattle.textarea_document.proofs.UndoGroups.{sound_undo}
@@ -12,16 +13,16 @@ undo_edit-requires c = sound_inside _ c.self.invariant
 
 -- the parts are those of the document after the group, of one edit
 undone : (c : After-undo_edit) → OnOk c.undo_edit.result
-    (document_of c.undo_edit.new.text_layout c.undo_edit.new.cursor c.undo_edit.new.anchor c.undo_edit.new.ranges.items c.undo_edit.new.history.log (changes_of c.undo_edit.new.changes) ≡ after_undo
-    (document_of c.self.inside.text_layout c.self.inside.cursor c.self.inside.anchor c.self.inside.ranges.items c.self.inside.history.log (changes_of c.self.inside.changes)))
+    (document_of c.undo_edit.new.text_layout c.undo_edit.new.cursor c.undo_edit.new.anchor c.undo_edit.new.ranges.items c.undo_edit.new.history.log (changes_of c.undo_edit.new.changes) (past_of c.self.inside.range_history) ≡ after_undo
+    (document_of c.self.inside.text_layout c.self.inside.cursor c.self.inside.anchor c.self.inside.ranges.items c.self.inside.history.log (changes_of c.self.inside.changes) (past_of c.self.inside.range_history)))
 undone c =
-    let document = document_of c.self.inside.text_layout c.self.inside.cursor c.self.inside.anchor c.self.inside.ranges.items c.self.inside.history.log (changes_of c.self.inside.changes) in
+    let document = document_of c.self.inside.text_layout c.self.inside.cursor c.self.inside.anchor c.self.inside.ranges.items c.self.inside.history.log (changes_of c.self.inside.changes) (past_of c.self.inside.range_history) in
     let one : newest_group document.log ≡ 1 = ap (λ (d : DocumentState). newest_group d.log) c.self.view_is ∙ c.requires in
     on_ok_weaker c.undo_edit.result (λ is. is ∙ sym (ap (λ count. times count edit_undone document) one)) c.undo_edit.ensures.ok
 
 pub invariant_of-self : goal.invariant_of-self
 invariant_of-self c =
-    let document = document_of c.self.inside.text_layout c.self.inside.cursor c.self.inside.anchor c.self.inside.ranges.items c.self.inside.history.log (changes_of c.self.inside.changes) in
+    let document = document_of c.self.inside.text_layout c.self.inside.cursor c.self.inside.anchor c.self.inside.ranges.items c.self.inside.history.log (changes_of c.self.inside.changes) (past_of c.self.inside.range_history) in
     after_step IsSound c.undo_edit.result document (after_undo document) _ (undone (goal.at.invariant_of-self c).After-undo_edit) c.undo_edit.ensures.err c.self.invariant (sound_undo document c.self.invariant)
 
 pub returns-clause-undone : goal.returns-clause-undone
