@@ -40,7 +40,7 @@ use Rattle.tui_textarea.specs.Splices.{tab_splices, word_after_splices, word_bef
 use Rattle.tui_textarea.specs.State.{State}
 use Rattle.tui_textarea.specs.Units.{earlier_start, later_end, whole_end, whole_start}
 use Rattle.tui_textarea.proofs.Cases.{apart, by_both, by_test}
-use Rattle.tui_textarea.proofs.Settling.{LayoutAndRanges, begun_unchanged, ended_unchanged, layout_and_ranges, settled_layout, visible}
+use Rattle.tui_textarea.proofs.Settling.{layout_and_ranges, settled_layout, visible}
 use Rattle.tui_textarea.proofs.WholeRemovals.{earlier_made, later_made, removes_from_whole, removes_up_to_whole, removes_whole}
 use Rattle.tui_textarea.proofs.Grouping.{char_beside, str_beside, tab_beside}
 use Rattle.tui_textarea.proofs.Removing.{ahead_made, range_removal_made, line_end_made, line_head_made, selected_made, whole_made, word_end_made, word_start_made}
