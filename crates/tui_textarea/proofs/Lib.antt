@@ -44,9 +44,11 @@ mod TextFailures
 mod Cases
 pub mod Settling
 pub mod WholeRemovals
+mod WholeEnds
 mod WrappedLines
 mod Stepping
 mod Replacing
+mod WholeStretches
 mod RangesOverActions
 mod Lifted
 mod Unedited
