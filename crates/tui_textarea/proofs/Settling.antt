@@ -93,11 +93,12 @@ settled_text bias state = by_unit (λ s. s.document.text ≡ state.document.text
 -- it makes no difference whether the group of a call ends before
 pub closed_settled : (opens : Bool) (bias : AtomicCursorBias) (state : State) → closed_if opens (settled bias state) ≡ settled bias (closed_if opens state)
 unfolding settled
-closed_settled opens bias state = by state.settings.cursor_unit
+closed_settled opens bias state = by state.settings.cursor_unit bias
   where
-    by : (found : CursorUnit) → closed_if opens (settled_for found bias state) ≡ settled_for found bias (closed_if opens state)
-    by unit.Character = refl
-    by unit.Cluster = refl
+    by : (found : CursorUnit) (toward : AtomicCursorBias) → closed_if opens (settled_for found toward state) ≡ settled_for found toward (closed_if opens state)
+    by unit.Character toward = refl
+    by unit.Cluster Backward = refl
+    by unit.Cluster Forward = refl
 
 -- ---- the positions
 
