@@ -1,5 +1,5 @@
 -- The first removal of each call takes whole clusters, if the cursor goes by clusters.
-use Rattle.std.proofs.Common.{◌≡◌, ◌∙◌, ◌<◌, ◌==◌, ℕ, Bool, true, false, List, [], ◌∷◌, ◌++◌, length, Option, None, Some, IfSome, ap, arith, refl, subst, sym}
+use Rattle.std.proofs.Common.{◌≡◌, ◌<◌, ◌≤◌, ◌⊎◌, ◌==◌, ℕ, Bool, true, false, cond, List, [], ◌∷◌, ◌++◌, length, Option, None, Some, IfSome, ap, arith, inl, inr, refl, subst, sym}
 use Rattle.std.proofs.lemmas.Bool.{cases_lt, cond-true, eq-eqb, eqb-true, false≢true}
 use Rattle.std.specs.Prelude.{if◌then◌else◌}
 use Rattle.std.specs.Str.{chars}
@@ -38,7 +38,7 @@ use Rattle.tui_textarea.specs.LayoutCalls.{tab_length}
 use Rattle.tui_textarea.specs.Removals.{cursor_line, in_line, is_at_line_end}
 use Rattle.tui_textarea.specs.Replacing.{match_at_cursor}
 use Rattle.tui_textarea.specs.Selection.{unselected}
-use Rattle.tui_textarea.specs.Splices.{atomic_range_splices, char_splices, clear_splices, line_end_splices, line_head_splices, splices_from, splices_up_to, str_splices, symbol_after_splices, symbol_before_splices, tab_splices}
+use Rattle.tui_textarea.specs.Splices.{atomic_range_splices, char_splices, clear_splices, line_end_splices, line_head_splices, selected_splices_or, splices_from, splices_up_to, str_splices, symbol_after_splices, symbol_before_splices, tab_splices}
 use Rattle.tui_textarea.specs.Splices.{whole_range_splices_or, word_after_splices, word_before_splices}
 use Rattle.tui_textarea.specs.State.{State}
 use Rattle.tui_textarea.specs.Units.{AreAtStops, FirstTakesWhole, GoesByClusters, HasScalars, IsAtStop, IsSettled, IsSettledBy, before_cursor, earlier_start_by, if_elsewhere, later_end_by, past_cursor, stop_of}
@@ -158,7 +158,8 @@ module _ (state : State) (h : IsSound state.document) (goes : GoesByClusters sta
   word_before =
       let document = state.document in
       let from = in_line document (word_start_before (cursor_line document) document.cursor.1) in
-      range_or DeleteBackward (range_before document) _ refl
+      let other = cond (document.cursor.1 == 0) (break_splices document) (removal_splices document (whole_start state from) document.cursor) in
+      range_or DeleteBackward (range_before document) other refl
       (by_test Whole (document.cursor.1 == 0) (break_splices document) (removal_splices document (whole_start state from) document.cursor) (λ at. break_whole document h)
       (λ inside.
       let made = word_start_made document h inside in
@@ -168,7 +169,8 @@ module _ (state : State) (h : IsSound state.document) (goes : GoesByClusters sta
   word_after =
       let document = state.document in
       let to = in_line document (word_end_after (cursor_line document) document.cursor.1) in
-      range_or DeleteForward (range_after document) _ refl
+      let other = cond (is_at_line_end document) (symbol_after_splices state) (removal_splices document document.cursor (whole_end state to)) in
+      range_or DeleteForward (range_after document) other refl
       (by_test Whole (is_at_line_end document) (symbol_after_splices state) (removal_splices document document.cursor (whole_end state to)) (λ at. symbol_after)
       (λ inside.
       let made = word_end_made document h inside in
@@ -234,7 +236,7 @@ tab_whole state h stops =
 -- ---- each call
 
 module _ (state : State) (h : IsSound state.document) (goes : GoesByClusters state) (stops : AreAtStops state.document) (scalars : HasScalars state.document) where
-  abbrev selected_or : (other : List Splice) → FirstTakesWhole state.document other → FirstTakesWhole state.document (selected_splices_or state.document other)
+  selected_or : (other : List Splice) → FirstTakesWhole state.document other → FirstTakesWhole state.document (selected_splices_or state.document other)
   selected_or other others = selected_or_whole state.document other h stops others
 
   unguarded_whole : (made : Call) → ¬ TakesParts made → FirstTakesWhole state.document (unguarded_splices state made)

@@ -41,7 +41,7 @@ first_fewer (suc n) c (suc k) [] = omega arith
 first_fewer (suc n) c (suc k) (b ∷ bytes) = first_fewer n (c * 64 + (b - 128)) k bytes
 
 -- the first bytes of a text have at most its characters
-fewer : (k : ℕ) (bytes : List ℕ) → length (chars (take k bytes)) ≤ length (chars bytes)
+pub fewer : (k : ℕ) (bytes : List ℕ) → length (chars (take k bytes)) ≤ length (chars bytes)
 unfolding chars
 fewer zero bytes = omega arith
 fewer (suc k) [] = omega arith
@@ -125,7 +125,7 @@ starts_are_in_text (Some pattern) text =
 
 -- ---- the one that is found
 
-found_has : {X : Type 0} (P : X → Type 0) (test : X → Bool) (xs : List X) → All P xs → IfSome (find test xs) P
+pub found_has : {X : Type 0} (P : X → Type 0) (test : X → Bool) (xs : List X) → All P xs → IfSome (find test xs) P
 found_has P test [] all = tt
 found_has P test (x ∷ xs) all =
     by_test (λ found. IfSome found P) (test x) (Some x) (find test xs)

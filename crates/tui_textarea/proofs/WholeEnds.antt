@@ -30,7 +30,7 @@ use Rattle.textarea_document.proofs.Betweens.{between_ends}
 use Rattle.tui_textarea.specs.Splices.{selected_splices_or}
 use Rattle.tui_textarea.specs.Units.{AreAtStops, FirstTakesWhole, IsAtStop, TakesWholeClusters, before_cursor, past_cursor}
 use Rattle.tui_textarea.proofs.Cases.{apart, by_test}
-use Rattle.tui_textarea.proofs.Removing.{range_removal_made, selected_made}
+use Rattle.tui_textarea.proofs.Removing.{range_removal_made, selected_made, some_number}
 use Rattle.tui_textarea.proofs.RowPlaces.{next_row}
 
 -- ---- stops of a text
@@ -136,7 +136,7 @@ stop_by_index document place index at is stop =
     subst (IsAtStop document) (sym (place_of-index document.text place at) ∙ ap (place_of document.text) is) stop
 
 -- the position of the symbol before the cursor
-before_stop : (document : DocumentState) → IsSound document → IsAtStop document (before_cursor document) → cursor_index document ≢ 0 → IsAtStop document (place_of document.text (cursor_index document - 1))
+before_stop : (document : DocumentState) → IsSound document → IsAtStop document (before_cursor document) → 0 < cursor_index document → IsAtStop document (place_of document.text (cursor_index document - 1))
 before_stop document h at some =
     let text = document.text in
     let rows = lines text in
@@ -151,7 +151,7 @@ before_stop document h at some =
             stop_by_index document (line_end rows row) (cursor_index document - 1) (omega (arith, h.cursor.0), omega arith) index (end_stop document row h)
         | inr first ↦
             let zero : document.cursor.0 ≡ 0 = omega (arith, first) in
-            absurd (some (omega (arith, ap (row_start text) zero, start)))
+            absurd (omega (arith, some, ap (row_start text) zero, start))
       ]
     ]
 
@@ -244,9 +244,9 @@ before_whole document h here before = by (range_before document) refl
         by_test (FirstTakesWhole document) (is_at_start document) [] (splice_of_step document RemoveBefore ∷ []) (λ none. tt)
         (λ inside removes.
         let index = cursor_index document - 1 in
-        let some = apart (cursor_index document) 0 inside in
-        let next : cursor_index document ≡ index + 1 = omega (arith, some) in
-        symbol_whole document index (before_stop document h before some) (stop_by_index document document.cursor (index + 1) h.cursor next here))
+        let more = some_number (cursor_index document) inside in
+        let next : cursor_index document ≡ index + 1 = omega (arith, more) in
+        symbol_whole document index (before_stop document h before more) (stop_by_index document document.cursor (index + 1) h.cursor next here))
     by (Some range) is =
         let ends = range_before_is document range is here before in
         removal_whole document (range_start range) (range_end range) (range_removal_made document DeleteBackward range h is)
