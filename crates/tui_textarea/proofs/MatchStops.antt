@@ -1,5 +1,5 @@
 -- The matches that can be replaced while the cursor goes by clusters begin and end at stops.
-use Rattle.std.proofs.Common.{◌≡◌, ◌∙◌, ◌<◌, ◌≤◌, ◌+◌, ◌-◌, ◌&&◌, ℕ, Bool, true, false, not, List, [], ◌∷◌, ◌++◌, length, map, get_or, Option, None, Some, IfSome, encode_utf8_all, is_some, ap, ap₂, arith, subst, sym}
+use Rattle.std.proofs.Common.{◌≡◌, ◌∙◌, ◌<◌, ◌≤◌, ◌+◌, ◌-◌, ◌&&◌, ℕ, Bool, true, false, not, List, [], ◌∷◌, ◌++◌, length, map, get_or, Option, None, Some, IfSome, encode_utf8_all, is_some, ap, ap₂, arith, refl, subst, sym}
 use Rattle.std.specs.Prelude.{All, filter}
 use Rattle.std.specs.Str.{all_scalars, chars}
 use Rattle.std.proofs.lemmas.Bool.{and_parts}

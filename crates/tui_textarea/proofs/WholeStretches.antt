@@ -1,19 +1,19 @@
 -- Stretches of a text that are replaced one after another: if all begin and end at stops, the first
 -- removal takes whole clusters. So does that of a line that changes places with others.
-use Rattle.std.proofs.Common.{◌≡◌, ◌∙◌, ◌≤◌, ◌+◌, ◌-◌, ◌==◌, ℕ, Bool, true, false, List, [], ◌∷◌, ◌++◌, length, min, None, ap, arith, refl, subst, sym}
+use Rattle.std.proofs.Common.{◌≡◌, ◌∙◌, ◌≤◌, ◌+◌, ◌-◌, ◌==◌, ℕ, Bool, true, false, cond, List, [], ◌∷◌, ◌++◌, length, min, None, ap, arith, refl, subst, sym}
 use Rattle.std.proofs.lemmas.Bool.{cond-false, false≢true}
 use Rattle.std.proofs.lemmas.Bool.Decides.{nat_tests}
 use Rattle.std.proofs.lemmas.List.Elements.{All-head, All-tail}
 use Rattle.textarea_data.specs.declared.range.AtomicCursorBias.TheVariants.{Forward}
 use Rattle.textarea_text.specs.Between.{clip}
-use Rattle.textarea_text.specs.Place.{IsPlace, IsPlaceOf, Place, end, index_of, is_before, last_row, line_end, line_of, place_of}
+use Rattle.textarea_text.specs.Place.{IsPlace, IsPlaceOf, IsUpTo, Place, end, index_of, is_before, last_row, line_end, line_of, place_of}
 use Rattle.textarea_text.specs.Splice.{Splice}
 use Rattle.textarea_text.specs.Text.{Symbol, following, leading, lines}
 use Rattle.textarea_document.specs.DocumentState.{DocumentState}
 use Rattle.textarea_document.specs.Edits.{nothing_inserted}
 use Rattle.textarea_document.specs.Moving.{has_line_below, move_down_splices, move_up_splices, relocation_splices}
 use Rattle.textarea_document.specs.Outcomes.{after_move}
-use Rattle.textarea_document.specs.Replacing.{ahead_end, ahead_start, all_splices, begun, begun_at_start, each_splices, place_ahead, range_splices, stretch_end, stretch_removal, stretch_start}
+use Rattle.textarea_document.specs.Replacing.{ahead_end, ahead_start, all_splices, begun, begun_at_start, each_splices, first_place, last_place, place_ahead, range_splices, stretch_end, stretch_removal, stretch_start}
 unfoldable use Rattle.textarea_document.specs.Replacing.{ahead_replaced, stretch_removed, stretch_replaced, stretch_splices}
 use Rattle.textarea_document.specs.Selection.{first_selected_row, last_selected_row}
 use Rattle.textarea_document.specs.Sound.{IsSound}
@@ -21,11 +21,10 @@ use Rattle.textarea_document.specs.Splices.{insertion_splices, removal_splices}
 use Rattle.textarea_document.proofs.MovedLines.{ends_above, ends_below}
 use Rattle.textarea_document.proofs.Orders.{index_before}
 use Rattle.textarea_document.proofs.Ranges.{index_from_up_to}
-use Rattle.textarea_document.proofs.Replacing.{both_places, not_before}
 use Rattle.textarea_document.proofs.Sounds.{sound_begun, start_is_place}
 use Rattle.tui_textarea.specs.Units.{AreWholeStretches, FirstTakesWhole, IsAtStop}
 use Rattle.tui_textarea.proofs.Cases.{by_test}
-use Rattle.tui_textarea.proofs.Removing.{index_is_place}
+use Rattle.tui_textarea.proofs.Removing.{place_by_index}
 use Rattle.tui_textarea.proofs.SoundStates.{sound_at}
 use Rattle.tui_textarea.proofs.Stepping.{nothing_stays_sound}
 use Rattle.tui_textarea.proofs.WholeEnds.{end_stop, removal_whole, start_stop, stays_at_stop}
@@ -83,11 +82,18 @@ clip_same rows place at =
 clip_edge : (document : DocumentState) (place : Place) → IsEdge document place → IsEdge document (clip (lines document.text) place)
 clip_edge document place at = subst (IsEdge document) (sym (clip_same (lines document.text) place at.0)) at
 
+first_or_last : (document : DocumentState) (one other : Place) → IsEdge document one → IsEdge document other → IsEdge document (first_place one other) × IsEdge document (last_place one other)
+first_or_last document one other h k = by (is_before other one)
+  where
+    by : (before : Bool) → IsEdge document (cond before other one) × IsEdge document (cond before one other)
+    by true = (k, h)
+    by false = (h, k)
+
 pub range_whole : (document : DocumentState) (from to : Place) (symbols : List Symbol) (now : ℕ) → IsEdge document from → IsEdge document to
     → FirstTakesWhole document (range_splices document from to symbols now)
 range_whole document from to symbols now at at_to =
     let rows = lines document.text in
-    let ends = both_places (IsEdge document) (clip rows from) (clip rows to) (clip_edge document from at) (clip_edge document to at_to) in
+    let ends = first_or_last document (clip rows from) (clip rows to) (clip_edge document from at) (clip_edge document to at_to) in
     replaced_whole document (stretch_start document.text from to) (stretch_end document.text from to) symbols now ends.0 ends.1
 
 -- ---- one stretch after another
@@ -115,6 +121,9 @@ same_whole one other (splice ∷ rest) goes h = λ removes.
     let whole = h removes in
     record { start = goes splice.place whole.start; stop = goes (end splice.place splice.symbols) whole.stop }
 
+not_before : (one other : Place) → is_before other one ≡ false → IsUpTo one other
+not_before one other e = (grind (arith, nat_tests), λ same. grind (arith, nat_tests))
+
 -- a stretch that begins where it ends is passed
 passed_is : (text : List Symbol) (start stop : Place) → IsPlace text start → IsPlace text stop → is_before start stop ≡ false → index_of text start ≤ index_of text stop → index_of text start ≡ index_of text stop
 passed_is text start stop at to none ordered = omega (arith, ordered, index_from_up_to text stop start to at (not_before stop start none))
@@ -131,8 +140,8 @@ each_whole document passed (stretch ∷ rest) symbols now h at order whole =
     let count = stretch.1 - stretch.0 in
     let start = ahead_start document skip in
     let stop = ahead_end document skip count in
-    let first = index_is_place text stretch.0 (omega (arith, order.1, order.2)) in
-    let last = index_is_place text stretch.1 order.2 in
+    let first = place_by_index text stretch.0 (omega (arith, order.1, order.2)) in
+    let last = place_by_index text stretch.1 order.2 in
     let start_is : start ≡ place_of text stretch.0 = place_ahead_is text document.cursor skip stretch.0 (omega (arith, at, order.0)) (omega (arith, order.1, order.2)) in
     let index : index_of text start ≡ stretch.0 = ap (index_of text) start_is ∙ first.1 in
     let stop_is : stop ≡ place_of text stretch.1 = place_ahead_is text start count stretch.1 (omega (arith, index, order.1)) order.2 in
