@@ -25,9 +25,8 @@ use Rattle.textarea_document.specs.Indenting.{tab_of}
 use Rattle.textarea_document.specs.Replacing.{stretch_end, stretch_start}
 use Rattle.textarea_document.specs.Selection.{is_selected, selection_end, selection_start}
 use Rattle.textarea_document.specs.Sound.{IsSound}
-use Rattle.textarea_document.specs.Splices.{break_splices, insertion_splices, removal_splices, selected_splices}
+use Rattle.textarea_document.specs.Splices.{break_splices, insertion_splices, removal_splices}
 use Rattle.textarea_document.specs.Target.{word_end_after, word_start_before}
-use Rattle.textarea_document.proofs.Sounds.{start_is_place}
 use Rattle.tui_textarea.specs.CallSplices.{any_splices, splices_by, splices_of}
 use Rattle.tui_textarea.specs.CallUnits.{TakesParts, TakesPartsBy}
 use Rattle.tui_textarea.specs.Calls.{call_splices, unguarded_splices}
@@ -38,7 +37,7 @@ use Rattle.tui_textarea.specs.LayoutCalls.{tab_length}
 use Rattle.tui_textarea.specs.Removals.{cursor_line, in_line, is_at_line_end}
 use Rattle.tui_textarea.specs.Replacing.{match_at_cursor}
 use Rattle.tui_textarea.specs.Selection.{unselected}
-use Rattle.tui_textarea.specs.Splices.{atomic_range_splices, char_splices, clear_splices, line_end_splices, line_head_splices, selected_splices_or, splices_from, splices_up_to, str_splices, symbol_after_splices, symbol_before_splices, tab_splices}
+use Rattle.tui_textarea.specs.Splices.{char_splices, clear_splices, line_end_splices, line_head_splices, selected_splices_or, splices_from, splices_up_to, str_splices, symbol_after_splices, symbol_before_splices, tab_splices}
 use Rattle.tui_textarea.specs.Splices.{whole_range_splices_or, word_after_splices, word_before_splices}
 use Rattle.tui_textarea.specs.State.{State}
 use Rattle.tui_textarea.specs.Units.{AreAtStops, FirstTakesWhole, GoesByClusters, HasScalars, IsAtStop, IsSettled, IsSettledBy, before_cursor, earlier_start_by, if_elsewhere, later_end_by, past_cursor, stop_of}

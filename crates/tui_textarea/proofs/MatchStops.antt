@@ -1,5 +1,5 @@
 -- The matches that can be replaced while the cursor goes by clusters begin and end at stops.
-use Rattle.std.proofs.Common.{◌≡◌, ◌∙◌, ◌<◌, ◌≤◌, ◌+◌, ◌-◌, ◌&&◌, ℕ, Bool, true, false, not, List, [], ◌∷◌, ◌++◌, length, map, get_or, Option, None, Some, IfSome, encode_utf8_all, is_some, ap, ap₂, arith, refl, subst, sym}
+use Rattle.std.proofs.Common.{◌≡◌, ◌∙◌, ◌<◌, ◌+◌, ◌-◌, ◌&&◌, ℕ, Bool, true, not, List, [], ◌∷◌, length, map, get_or, Option, None, Some, IfSome, encode_utf8_all, is_some, ap, ap₂, arith, refl, subst, sym}
 use Rattle.std.specs.Prelude.{All, filter}
 use Rattle.std.specs.Str.{all_scalars, chars}
 use Rattle.std.proofs.lemmas.Bool.{and_parts}
@@ -8,14 +8,12 @@ use Rattle.std.proofs.lemmas.Str.{chars-encodes}
 use Rattle.textarea_clusters.specs.Edges.{is_cluster_edge}
 use Rattle.textarea_data.specs.declared.cursor.CursorUnit.TheVariants as unit
 use Rattle.textarea_data.specs.declared.cursor.CursorUnit.{CursorUnit}
-use Rattle.textarea_data.specs.declared.range.AtomicRange.{AtomicRange}
 use Rattle.textarea_ranges.specs.Lookup.{range_around}
 use Rattle.textarea_search.specs.ColumnPairs.{columns_of_span, match_column_pairs}
 use Rattle.textarea_search.specs.Matches.{match_spans}
 use Rattle.textarea_search.specs.TextMatches.{matches_from, text_match}
 use Rattle.textarea_search.specs.declared.search.text_matches.TextMatch.{TextMatch}
-use Rattle.textarea_text.specs.Place.{IsPlace, Place, line_of, place_of}
-use Rattle.textarea_text.specs.Splice.{Splice}
+use Rattle.textarea_text.specs.Place.{line_of, place_of}
 use Rattle.textarea_text.specs.Text.{Symbol, lines}
 use Rattle.textarea_document.specs.DocumentState.{DocumentState}
 use Rattle.textarea_document.specs.Sound.{IsSound}

@@ -1,5 +1,5 @@
 -- No call leaves the cursor or the anchor inside a cluster, if the cursor goes by clusters.
-use Rattle.std.proofs.Common.{◌≡◌, ◌∙◌, ◌&&◌, ℕ, not, Bool, true, false, List, [], ◌∷◌, Option, None, Some, IfSome, ap, refl, subst, sym, is_some, ⊎_elim}
+use Rattle.std.proofs.Common.{◌≡◌, ◌&&◌, ℕ, not, Bool, true, false, List, [], ◌∷◌, Option, None, Some, IfSome, ap, refl, subst, sym, is_some, ⊎_elim}
 use Rattle.std.proofs.lemmas.Bool.{and_parts, false≢true}
 use Rattle.textarea_calls.specs.Possible.{CanBeMade}
 use Rattle.textarea_calls.specs.declared.action.Action.{Action}

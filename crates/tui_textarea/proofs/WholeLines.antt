@@ -1,6 +1,6 @@
 -- What is replaced at the starts of lines that are indented, or outdented by clusters, begins and ends
 -- at stops.
-use Rattle.std.proofs.Common.{◌≡◌, ◌≤◌, ◌+◌, ◌-◌, ◌==◌, ℕ, Bool, true, false, List, [], ◌∷◌, ◌++◌, length, drop, take, Option, None, Some, IfSome, arith, refl, subst, sym}
+use Rattle.std.proofs.Common.{◌≡◌, ◌≤◌, ◌+◌, ◌-◌, ◌==◌, ℕ, Bool, true, false, List, [], ◌∷◌, length, drop, take, Option, None, Some, IfSome, arith, refl, subst, sym}
 use Rattle.std.specs.Prelude.{All, if◌then◌else◌}
 use Rattle.std.proofs.lemmas.List.{length-drop}
 use Rattle.std.proofs.lemmas.List.Elements.{All-append, All-cons, All-nil}
@@ -11,7 +11,6 @@ use Rattle.textarea_data.specs.declared.cursor.CursorUnit.{CursorUnit}
 use Rattle.textarea_data.specs.declared.range.AtomicRange.{AtomicRange}
 use Rattle.textarea_text.specs.Place.{Place, end, place_of}
 use Rattle.textarea_text.specs.Text.{Symbol, characters, lines}
-use Rattle.textarea_text.specs.Splice.{Splice}
 use Rattle.textarea_document.specs.DocumentState.{DocumentState}
 use Rattle.textarea_document.specs.Indenting.{indent_columns, is_selected_row, line_stretches, outdent_columns, replaced_columns, shift_columns, shift_splices, stretch_from, stretches_from}
 use Rattle.textarea_document.specs.ReplacedText.{AreStretches}

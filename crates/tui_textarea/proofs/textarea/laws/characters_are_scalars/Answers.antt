@@ -1,6 +1,6 @@
-use Rattle.std.proofs.Common.{◌≡◌, ℕ, true, List, String, Global, string_bytes, get_or, length, subst}
+use Rattle.std.proofs.Common.{◌≡◌, true, List, String, Global, string_bytes, get_or, subst}
 use Rattle.std.specs.Prelude.{All}
-use Rattle.std.specs.Str.{all_scalars, chars}
+use Rattle.std.specs.Str.{all_scalars}
 use Rattle.std.proofs.lemmas.List.Elements.{All-map}
 use Rattle.std.proofs.lemmas.Str.{IsUtf8-string_bytes, scalars-chars}
 use Rattle.textarea_text.specs.Text.{characters_of, lines_of}
