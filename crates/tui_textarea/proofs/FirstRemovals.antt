@@ -40,7 +40,7 @@ use Rattle.tui_textarea.specs.Selection.{unselected}
 use Rattle.tui_textarea.specs.Splices.{char_splices, clear_splices, line_end_splices, line_head_splices, selected_splices_or, splices_from, splices_up_to, str_splices, symbol_after_splices, symbol_before_splices, tab_splices}
 use Rattle.tui_textarea.specs.Splices.{whole_range_splices_or, word_after_splices, word_before_splices}
 use Rattle.tui_textarea.specs.State.{State}
-use Rattle.tui_textarea.specs.Units.{AreAtStops, FirstTakesWhole, GoesByClusters, HasScalars, IsAtStop, IsSettled, IsSettledBy, before_cursor, earlier_start_by, if_elsewhere, later_end_by, past_cursor, stop_of}
+use Rattle.tui_textarea.specs.Units.{AreAtStops, FirstTakesWhole, GoesByClusters, IsAtStop, IsSettled, IsSettledBy, before_cursor, earlier_start_by, if_elsewhere, later_end_by, past_cursor, stop_of}
 use Rattle.tui_textarea.specs.Units.{whole_by, whole_end, whole_start, whole_stretch, whole_stretch_by}
 use Rattle.tui_textarea.proofs.Cases.{by_test}
 use Rattle.tui_textarea.proofs.MatchStops.{match_whole, matches_whole}
@@ -234,7 +234,7 @@ tab_whole state h stops =
 
 -- ---- each call
 
-module _ (state : State) (h : IsSound state.document) (goes : GoesByClusters state) (stops : AreAtStops state.document) (scalars : HasScalars state.document) where
+module _ (state : State) (h : IsSound state.document) (goes : GoesByClusters state) (stops : AreAtStops state.document) where
   selected_or : (other : List Splice) → FirstTakesWhole state.document other → FirstTakesWhole state.document (selected_splices_or state.document other)
   selected_or other others = selected_or_whole state.document other h stops others
 
@@ -252,7 +252,7 @@ module _ (state : State) (h : IsSound state.document) (goes : GoesByClusters sta
   unguarded_whole call.MoveLinesDown parts = down_whole state.document state.time h
   unguarded_whole (call.ReplaceRange from to text) parts = between state h goes stops.cursor from to (fragment_symbols (chars text.now))
   unguarded_whole (call.ReplaceMatch text) parts = match_whole state (admitted_for (match_at_cursor state) state (fragment_symbols (chars text.now))) h goes
-  unguarded_whole (call.ReplaceAll text) parts = matches_whole state (admitted state (fragment_symbols (chars text.now))) h goes scalars
+  unguarded_whole (call.ReplaceAll text) parts = matches_whole state (admitted state (fragment_symbols (chars text.now))) h goes
   unguarded_whole (call.DeleteStr count) parts = absurd (parts tt)
   unguarded_whole call.DeleteNewline parts = selected_or (break_splices state.document) (break_whole state.document h)
   unguarded_whole call.DeleteChar parts = selected_or (symbol_before_splices state) (symbol_before state h goes stops.cursor)
@@ -303,7 +303,7 @@ module _ (state : State) (h : IsSound state.document) (goes : GoesByClusters sta
   each_whole (call.InputWithoutShortcuts input) parts = action_whole (asked_without_shortcuts input.now) parts
   each_whole made parts = guarded_whole made parts
 
-pub first_whole : (state : State) (made : Call) → IsSound state.document → HasScalars state.document → GoesByClusters state → IsSettled state → ¬ TakesParts made
+pub first_whole : (state : State) (made : Call) → IsSound state.document → GoesByClusters state → IsSettled state → ¬ TakesParts made
     → FirstTakesWhole state.document (splices_of state made)
-first_whole state made h scalars goes settled parts =
-    each_whole state h goes (subst (λ (found : CursorUnit). IsSettledBy found state.document) goes settled) scalars made parts
+first_whole state made h goes settled parts =
+    each_whole state h goes (subst (λ (found : CursorUnit). IsSettledBy found state.document) goes settled) made parts

@@ -1,11 +1,9 @@
 -- The matches of a pattern follow one another: each begins at or after the end of the one before it.
 use Rattle.std.proofs.Common.{◌≡◌, ◌≤◌, ◌+◌, ◌-◌, ℕ, zero, suc, Bool, true, false, cond, List, [], ◌∷◌, ◌++◌, length, map, take, Option, None, Some, encode_utf8_all, ap, arith, subst, sym, ⊎_elim}
-use Rattle.std.specs.Prelude.{All, filter}
+use Rattle.std.specs.Prelude.{filter}
 use Rattle.std.specs.Option.{option_map_or}
-use Rattle.std.specs.Str.{all_scalars, chars}
+use Rattle.std.specs.Str.{chars}
 use Rattle.std.proofs.lemmas.List.{map-append, take-take}
-use Rattle.std.proofs.lemmas.List.Elements.{All-head, All-tail}
-use Rattle.std.proofs.lemmas.Str.{chars-encodes}
 use Rattle.regex_hir.specs.Find.{Match, find_all_str}
 use Rattle.regex_hir.specs.Re.{Re}
 use Rattle.regex_hir.proofs.OptionLemmas.{option_cases}
@@ -24,7 +22,7 @@ use Rattle.textarea_search.proofs.ListedLemmas.{next_found}
 use Rattle.textarea_text.specs.Text.{Symbol}
 use Rattle.textarea_text.proofs.TextPlaces.{index_within}
 use Rattle.tui_textarea.specs.WholeMatches.{indices_of}
-use Rattle.tui_textarea.proofs.FoundPlaces.{column_within, fewer}
+use Rattle.tui_textarea.proofs.FoundPlaces.{column_within, encoded_as_many, fewer}
 use Rattle.tui_textarea.proofs.RowPlaces.{AreRowsFrom, column_place, index_here, rows_after}
 use Rattle.tui_textarea.proofs.WholeStretches.{AreInOrder}
 
@@ -87,21 +85,20 @@ line_in_order row before size low line (s ∷ spans) more room follow later =
       line_in_order row before size s.1 line spans more room follow.2 later,
     )
 
-pub matches_in_order : (pattern : List ℕ) (text : List Symbol) (row before : ℕ) (rows : List (List ℕ)) → AreRowsFrom text row before rows → All (λ line. all_scalars line ≡ true) rows
+pub matches_in_order : (pattern : List ℕ) (text : List Symbol) (row before : ℕ) (rows : List (List ℕ)) → AreRowsFrom text row before rows
     → AreInOrder before (length text) (map indices_of (matches_from (match_column_pairs pattern) row before (map encode_utf8_all rows)))
-matches_in_order pattern text row before [] from scalars = tt
-matches_in_order pattern text row before (line ∷ rest) from scalars =
+matches_in_order pattern text row before [] from = tt
+matches_in_order pattern text row before (line ∷ rest) from =
     let size = length text in
     let bytes = encode_utf8_all line in
     let spans = match_spans pattern bytes in
     let here = map (text_match row before) (map (columns_of_span bytes) spans) in
-    let same : length (chars bytes) ≡ length line = ap length (chars-encodes line (All-head (λ l. all_scalars l ≡ true) line rest scalars)) in
     let after = before + length (chars bytes) + 1 in
     let later = matches_from (match_column_pairs pattern) (row + 1) after (map encode_utf8_all rest) in
-    let next : before + length line + 1 ≡ after = omega (arith, same) in
+    let next : before + length line + 1 ≡ after = omega (arith, encoded_as_many line) in
     let others : AreInOrder (before + length line + 1) size (map indices_of later) =
     subst (λ n. AreInOrder (before + length line + 1) size (map indices_of (matches_from (match_column_pairs pattern) (row + 1) n (map encode_utf8_all rest)))) next
-    (matches_in_order pattern text (row + 1) (before + length line + 1) rest (rows_after text row before line rest from) (All-tail (λ l. all_scalars l ≡ true) line rest scalars)) in
+    (matches_in_order pattern text (row + 1) (before + length line + 1) rest (rows_after text row before line rest from)) in
     let place = column_place text row before line rest from (length line) (omega arith) in
     let room : before + length line ≤ size = omega (arith, index_within text (row, length line) place, index_here text row before line rest from (length line)) in
     subst (AreInOrder before size) (sym (map-append indices_of here later))

@@ -1,10 +1,9 @@
 -- The matches that can be replaced while the cursor goes by clusters begin and end at stops.
 use Rattle.std.proofs.Common.{◌≡◌, ◌∙◌, ◌<◌, ◌+◌, ◌-◌, ◌&&◌, ℕ, Bool, true, not, List, [], ◌∷◌, length, map, get_or, Option, None, Some, IfSome, encode_utf8_all, is_some, ap, ap₂, arith, refl, subst, sym}
 use Rattle.std.specs.Prelude.{All, filter}
-use Rattle.std.specs.Str.{all_scalars, chars}
+use Rattle.std.specs.Str.{chars}
 use Rattle.std.proofs.lemmas.Bool.{and_parts}
-use Rattle.std.proofs.lemmas.List.Elements.{All-append, All-filter, All-head, All-map, All-nil, All-tail, filter_passes}
-use Rattle.std.proofs.lemmas.Str.{chars-encodes}
+use Rattle.std.proofs.lemmas.List.Elements.{All-append, All-filter, All-map, All-nil, filter_passes}
 use Rattle.textarea_clusters.specs.Edges.{is_cluster_edge}
 use Rattle.textarea_data.specs.declared.cursor.CursorUnit.TheVariants as unit
 use Rattle.textarea_data.specs.declared.cursor.CursorUnit.{CursorUnit}
@@ -19,9 +18,9 @@ use Rattle.textarea_document.specs.DocumentState.{DocumentState}
 use Rattle.textarea_document.specs.Sound.{IsSound}
 use Rattle.tui_textarea.specs.Replacing.{match_at_cursor, match_splices, match_splices_by, matches_splices, replaceable}
 use Rattle.tui_textarea.specs.State.{State}
-use Rattle.tui_textarea.specs.Units.{AreWholeStretches, FirstTakesWhole, GoesByClusters, HasScalars, IsAtStop}
+use Rattle.tui_textarea.specs.Units.{AreWholeStretches, FirstTakesWhole, GoesByClusters, IsAtStop}
 use Rattle.tui_textarea.specs.WholeMatches.{IsMatchOfLines, begins_at, cuts_no_cluster, cuts_no_range, end_of_match, indices_of, match_at, replaceable_in, start_of_match, unit_matches, whole_matches}
-use Rattle.tui_textarea.proofs.FoundPlaces.{column_within, found_has}
+use Rattle.tui_textarea.proofs.FoundPlaces.{column_within, encoded_as_many, found_has}
 use Rattle.tui_textarea.proofs.MatchesOfLines.{whole_matches_of_lines}
 use Rattle.tui_textarea.proofs.MatchSpans.{kept_in_order, matches_in_order}
 use Rattle.tui_textarea.proofs.RowPlaces.{AreRowsFrom, all_rows, place_at_index, rows_after}
@@ -119,40 +118,40 @@ match_at_columns text row before line rest span from =
       stop = place_at_index text row before line rest from columns.1 (before + columns.1) (column_within line span.1) refl;
     }
 
-matches_at : (pattern : List ℕ) (text : List Symbol) (row before : ℕ) (rows : List (List ℕ)) → AreRowsFrom text row before rows → All (λ line. all_scalars line ≡ true) rows
+matches_at : (pattern : List ℕ) (text : List Symbol) (row before : ℕ) (rows : List (List ℕ)) → AreRowsFrom text row before rows
     → All (IsMatchAt text) (matches_from (match_column_pairs pattern) row before (map encode_utf8_all rows))
-matches_at pattern text row before [] from scalars = All-nil (IsMatchAt text)
-matches_at pattern text row before (line ∷ rest) from scalars =
+matches_at pattern text row before [] from = All-nil (IsMatchAt text)
+matches_at pattern text row before (line ∷ rest) from =
     let bytes = encode_utf8_all line in
     let spans = match_spans pattern bytes in
     let after = before + length (chars bytes) + 1 in
-    let same : before + length line + 1 ≡ after = omega (arith, ap length (chars-encodes line (All-head (λ l. all_scalars l ≡ true) line rest scalars))) in
+    let same : before + length line + 1 ≡ after = omega (arith, encoded_as_many line) in
     let later = matches_from (match_column_pairs pattern) (row + 1) after (map encode_utf8_all rest) in
     All-append (IsMatchAt text) (map (text_match row before) (map (columns_of_span bytes) spans)) later
     (All-map (IsMatchAt text) (text_match row before) (map (columns_of_span bytes) spans)
     (All-map (λ (columns : ℕ × ℕ). IsMatchAt text (text_match row before columns)) (columns_of_span bytes) spans
     (λ k d within. match_at_columns text row before line rest (get_or spans k d) from)))
     (subst (λ n. All (IsMatchAt text) (matches_from (match_column_pairs pattern) (row + 1) n (map encode_utf8_all rest))) same
-    (matches_at pattern text (row + 1) (before + length line + 1) rest (rows_after text row before line rest from) (All-tail (λ l. all_scalars l ≡ true) line rest scalars)))
+    (matches_at pattern text (row + 1) (before + length line + 1) rest (rows_after text row before line rest from)))
 
 -- ---- the stretches that they replace
 
 abbrev Stretches : DocumentState → List (ℕ × ℕ) → Type 0
 Stretches document stretches = AreWholeStretches document stretches × AreInOrder 0 (length document.text) stretches
 
-stretches_by : (document : DocumentState) (pattern : Option (List ℕ)) → HasScalars document → Stretches document (replaceable_in unit.Cluster document.ranges pattern (lines document.text))
-stretches_by document None scalars = (All-nil (λ stretch. IsAtStop document (place_of document.text stretch.0) × IsAtStop document (place_of document.text stretch.1)), tt)
-stretches_by document (Some pattern) scalars =
+stretches_by : (document : DocumentState) (pattern : Option (List ℕ)) → Stretches document (replaceable_in unit.Cluster document.ranges pattern (lines document.text))
+stretches_by document None = (All-nil (λ stretch. IsAtStop document (place_of document.text stretch.0) × IsAtStop document (place_of document.text stretch.1)), tt)
+stretches_by document (Some pattern) =
     let text = document.text in
     let rows = lines text in
     let all = matches_from (match_column_pairs pattern) 0 0 (map encode_utf8_all rows) in
     let whole = filter (cuts_no_range document.ranges) all in
     let found = filter (cuts_no_cluster 0 rows) whole in
-    let places = All-filter (cuts_no_cluster 0 rows) (IsMatchAt text) whole (All-filter (cuts_no_range document.ranges) (IsMatchAt text) all (matches_at pattern text 0 0 rows (all_rows text) scalars)) in
+    let places = All-filter (cuts_no_cluster 0 rows) (IsMatchAt text) whole (All-filter (cuts_no_range document.ranges) (IsMatchAt text) all (matches_at pattern text 0 0 rows (all_rows text))) in
     let passes = passing document (Some pattern) 0 rows in (
       All-map (λ stretch. IsAtStop document (place_of text stretch.0) × IsAtStop document (place_of text stretch.1)) indices_of found
           (λ k d within. stops (get_or found k d) (places k d within) (passes k d within)),
-      kept_in_order (cuts_no_cluster 0 rows) 0 (length text) whole (kept_in_order (cuts_no_range document.ranges) 0 (length text) all (matches_in_order pattern text 0 0 rows (all_rows text) scalars)),
+      kept_in_order (cuts_no_cluster 0 rows) 0 (length text) whole (kept_in_order (cuts_no_range document.ranges) 0 (length text) all (matches_in_order pattern text 0 0 rows (all_rows text))),
     )
   where
     stops : (found : TextMatch) → IsMatchAt document.text found → (cuts_no_cluster 0 (lines document.text) found ≡ true) × (cuts_no_range document.ranges found ≡ true)
@@ -162,15 +161,15 @@ stretches_by document (Some pattern) scalars =
         let ends = ends_at_stops document 0 (lines document.text) found (ap (line_of (lines document.text)) none) passes.0 passes.1 in
         (subst (IsAtStop document) (sym at.start) ends.0, subst (IsAtStop document) (sym at.stop) ends.1)
 
-stretches_are : (state : State) → GoesByClusters state → HasScalars state.document → Stretches state.document (replaceable state)
-stretches_are state goes scalars =
+stretches_are : (state : State) → GoesByClusters state → Stretches state.document (replaceable state)
+stretches_are state goes =
     let document = state.document in
-    subst (λ (found : CursorUnit). Stretches document (replaceable_in found document.ranges state.pattern (lines document.text))) (sym goes) (stretches_by document state.pattern scalars)
+    subst (λ (found : CursorUnit). Stretches document (replaceable_in found document.ranges state.pattern (lines document.text))) (sym goes) (stretches_by document state.pattern)
 
-pub matches_are_whole : (state : State) → GoesByClusters state → HasScalars state.document → AreWholeStretches state.document (replaceable state)
-matches_are_whole state goes scalars = (stretches_are state goes scalars).0
+pub matches_are_whole : (state : State) → GoesByClusters state → AreWholeStretches state.document (replaceable state)
+matches_are_whole state goes = (stretches_are state goes).0
 
-pub matches_whole : (state : State) (symbols : List Symbol) → IsSound state.document → GoesByClusters state → HasScalars state.document → FirstTakesWhole state.document (matches_splices state symbols)
-matches_whole state symbols h goes scalars =
-    let are = stretches_are state goes scalars in
+pub matches_whole : (state : State) (symbols : List Symbol) → IsSound state.document → GoesByClusters state → FirstTakesWhole state.document (matches_splices state symbols)
+matches_whole state symbols h goes =
+    let are = stretches_are state goes in
     all_whole state.document (replaceable state) symbols state.time h are.1 are.0

@@ -1,7 +1,6 @@
 -- Whole characters: where the cursor and the anchor may be, and how far a removal reaches, in a text
 -- area whose cursor goes by grapheme clusters.
 use Rattle.std.specs.Prelude.{◌≡◌, ℕ, ◌+◌, ◌-◌, ◌==◌, All, true, false, List, [], ◌∷◌, Option, None, Some, IfSome, option_map, if◌then◌else◌}
-use Rattle.std.specs.Str.{all_scalars}
 use Rattle.textarea_text.specs.Place.{Place, end, is_before, place_of}
 use Rattle.textarea_text.specs.Splice.{Splice}
 use Rattle.textarea_text.specs.Text.{lines}
@@ -119,10 +118,6 @@ abbrev pub GoesByClusters : State → Type 0
 GoesByClusters state = state.settings.cursor_unit ≡ unit.Cluster
 
 -- ---- what removals take
-
--- the characters of the text are Unicode scalar values, as those of every text area
-abbrev pub HasScalars : DocumentState → Type 0
-HasScalars document = All (λ line. all_scalars line ≡ true) (lines document.text)
 
 -- the removal begins and ends where neither a cluster nor a range of the text contains the position
 pub record TakesWholeClusters (document : DocumentState) (splice : Splice) : Type 0 where

@@ -4,7 +4,7 @@ ghost use Rattle.textarea_data.specs.declared.cursor.CursorUnit.TheVariants.{Clu
 ghost use Rattle.textarea_document.specs.Indenting.{line_stretches};
 ghost use Rattle.tui_textarea.specs.CallUnits.{TakesParts};
 ghost use Rattle.tui_textarea.specs.Replacing.{replaceable};
-ghost use Rattle.tui_textarea.specs.Units.{AreWholeStretches, FirstTakesWhole, GoesByClusters, HasScalars};
+ghost use Rattle.tui_textarea.specs.Units.{AreWholeStretches, FirstTakesWhole, GoesByClusters};
 ghost use Rattle.tui_textarea.specs.Prelude.{Answer, CanApply, CanBeMade, CoversNoMore, SetsRanges, ChangesFollow, ChangesLead, ChangesOfRun, SetsLines, SetsLog, taken_by, RangesOfRun, Run, SplicedBy, SplitNoRange, RangesStayWhole, IsSettled, IsSound, Buffer, State, WrapsByCall, Call, RangesFollowCall, IsUndoOrRedo, IsResultOf, IsAfterCall, IsAfterOutOfMemory, Leads, ShowsSame, CallResult, OfSplicesOutOfMemory, edits, is_editable, splices_of};
 
 use crate::drawing::laws::{one_drawing, one_rendering};
@@ -150,14 +150,14 @@ pub fn settled_runs_stay()
 }
 
 /// If the cursor goes by clusters, what the first removal of a call takes begins and ends where neither
-/// a cluster nor an atomic range of the text strictly contains the position, in every state that a
-/// text area has (`characters_are_scalars`). So do all matches that `replace_all` replaces, and all
-/// that `outdent_lines` removes. `delete_str`, undo and redo may take parts of clusters.
+/// a cluster nor an atomic range of the text strictly contains the position. So do all matches that
+/// `replace_all` replaces, and all that `outdent_lines` removes. `delete_str`, undo and redo may take
+/// parts of clusters.
 pub fn removals_take_whole_clusters()
     ensures first { (state : State) (call : Call) → IsSound state.document →
-        HasScalars state.document → GoesByClusters state → IsSettled state → ¬ TakesParts call →
+        GoesByClusters state → IsSettled state → ¬ TakesParts call →
         FirstTakesWhole state.document (splices_of state call) }
-    ensures matches { (state : State) → HasScalars state.document → GoesByClusters state →
+    ensures matches { (state : State) → GoesByClusters state →
         AreWholeStretches state.document (replaceable state) }
     ensures starts { (state : State) →
         AreWholeStretches state.document (line_stretches state.document (Some Cluster)) }

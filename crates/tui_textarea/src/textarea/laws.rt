@@ -4,7 +4,6 @@ ghost use Rattle.textarea_text.specs.Text.{Symbol};
 ghost use Rattle.tui_textarea.specs.Prelude.{Call, IsEditUndoneAtOnce, IsInsertion, IsPlace, IsReplacement, IsReplacementUndoneAtOnce, IsUndoneAtOnce, MakesFewEdits, Fits, Splice, done_groups, RestoresAll, RestoresDocument, ListsFit, AreInTextOrder, LeadsToFirstMatch, LeadsToMatchAfter, match_starts, after_edit, is_editable, is_selected, IsSound, HasRowsFromScratch, PastesCopy};
 ghost use Rattle.tui_textarea.specs.Matches.{BeginsWithFirst, GoesThroughMatches};
 ghost use Rattle.tui_textarea.specs.TextsBefore.{StepsBack};
-ghost use Rattle.tui_textarea.specs.Units.{HasScalars};
 
 use crate::textarea::TextArea;
 use textarea_lines::laws::one_list_of_rows;
@@ -100,13 +99,6 @@ pub fn is_sound(area: &TextArea<'_>)
     ensures { IsSound area.now.document }
 {
     area.document.is_sound();
-}
-
-/// In every text area the characters of the text are Unicode scalar values.
-pub fn characters_are_scalars(area: &TextArea<'_>)
-    ensures { HasScalars area.now.document }
-{
-    let _ = area.lines();
 }
 
 /// In every text area the cursor, and the beginning of a selection, are positions of the text.

@@ -7,7 +7,7 @@ use Rattle.tui_textarea.proofs.outcomes.laws.removals_take_whole_clusters.Goals 
 
 pub returns : goal.returns
 returns c = record {
-  first = λ state call sound scalars goes settled parts. first_whole state call sound scalars goes settled parts;
-  matches = λ state scalars goes. matches_are_whole state goes scalars;
+  first = first_whole;
+  matches = matches_are_whole;
   starts = λ state. line_starts_whole state.document (Some Cluster) tt;
 }
