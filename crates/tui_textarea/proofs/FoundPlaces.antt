@@ -21,13 +21,6 @@ use Rattle.textarea_search.proofs.ColumnLemmas.{All-along}
 
 -- ---- the number of characters in the first bytes of a line
 
--- the number of characters does not depend on the value of the first one
-same_count : (n c d : ℕ) (bytes : List ℕ) → length (chars_after n c bytes) ≡ length (chars_after n d bytes)
-same_count zero c d [] = refl
-same_count zero c d (b ∷ bytes) = refl
-same_count (suc n) c d [] = refl
-same_count (suc n) c d (b ∷ bytes) = same_count n (c * 64 + (b - 128)) (d * 64 + (b - 128)) bytes
-
 first_fewer : (n c k : ℕ) (bytes : List ℕ) → length (chars_after n c (take k bytes)) ≤ length (chars_after n c bytes)
 first_fewer zero c k [] = by_empty k
   where
