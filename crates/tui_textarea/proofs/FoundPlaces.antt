@@ -89,7 +89,7 @@ unfolding chars
 encoded_fewer [] = omega arith
 encoded_fewer (c ∷ line) = omega (arith, encoded_one c (encode_utf8_all line), encoded_fewer line)
 
-column_within : (line : List ℕ) (byte : ℕ) → column_of_byte (encode_utf8_all line) byte ≤ length line
+pub column_within : (line : List ℕ) (byte : ℕ) → column_of_byte (encode_utf8_all line) byte ≤ length line
 column_within line byte = omega (arith, fewer byte (encode_utf8_all line), encoded_fewer line)
 
 -- ---- the starts of matches

@@ -29,6 +29,7 @@ mod TypedLines
 mod MatchOrder
 mod MatchSteps
 mod MatchWalk
+mod MatchesOfLines
 mod OneTarget
 pub mod Frames
 mod OneAct
