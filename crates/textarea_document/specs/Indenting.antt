@@ -150,11 +150,11 @@ lines_shifted document outdents tab now =
 abbrev pub tab_characters : Bool → ℕ → List ℕ
 tab_characters hard tab_length = if hard then 9 ∷ [] else replicate tab_length 32
 
-abbrev pub tab_of : DocumentState → Option CursorUnit → List ℕ
+abbrev pub tab_of : DocumentState → Bool → List ℕ
 tab_of document hard = tab_characters hard document.layout.settings.tab_len
 
 -- a tab is inserted at the start of each line of the selection, or of the cursor's line without one
-abbrev pub lines_indented : DocumentState → Option CursorUnit → ℕ → DocumentState
+abbrev pub lines_indented : DocumentState → Bool → ℕ → DocumentState
 lines_indented document hard now = lines_shifted document None (tab_of document hard) now
 
 -- a tab, or spaces in its place, are removed there
@@ -167,7 +167,7 @@ abbrev pub shift_splices : DocumentState → Option CursorUnit → List ℕ → 
 shift_splices document outdents tab now =
     all_splices document (line_stretches document outdents) (characters tab) now
 
-abbrev pub indent_splices : DocumentState → Option CursorUnit → ℕ → List Splice
+abbrev pub indent_splices : DocumentState → Bool → ℕ → List Splice
 indent_splices document hard now = shift_splices document None (tab_of document hard) now
 
 abbrev pub outdent_splices : DocumentState → CursorUnit → ℕ → List Splice

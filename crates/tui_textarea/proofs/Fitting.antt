@@ -6,6 +6,7 @@ use Rattle.std.proofs.lemmas.Bool.Decides.{nat_tests}
 use Rattle.std.proofs.lemmas.Nat.{mul-le}
 use Rattle.std.proofs.lemmas.List.{drop-map, drop-take, length-append, length-drop, length-map, length-take, map-append, take-map, take_more}
 use Rattle.textarea_clusters.specs.Edges.{edge_back}
+use Rattle.textarea_data.specs.declared.cursor.CursorUnit.{CursorUnit}
 use Rattle.textarea_document.specs.DocumentState.{DocumentState}
 use Rattle.textarea_document.specs.Indenting.{line_stretches, replaced_columns, stretch_from, stretches_from}
 use Rattle.textarea_document.specs.Selection.{first_selected_row, last_selected_row}
@@ -193,7 +194,7 @@ stretch_from-le : (before : ℕ) (count : Option ℕ) → length (stretch_from b
 stretch_from-le before None = omega arith
 stretch_from-le before (Some count) = omega arith
 
-stretches_from-le : (document : DocumentState) (outdents : Bool) (row before : ℕ) (rows : List (List ℕ)) → length (stretches_from document outdents row before rows) ≤ length rows
+stretches_from-le : (document : DocumentState) (outdents : Option CursorUnit) (row before : ℕ) (rows : List (List ℕ)) → length (stretches_from document outdents row before rows) ≤ length rows
 stretches_from-le document outdents row before [] = omega arith
 stretches_from-le document outdents row before (line ∷ rest) =
     let replaced = replaced_columns document outdents row line in
@@ -205,7 +206,7 @@ stretches_from-le document outdents row before (line ∷ rest) =
       stretches_from-le document outdents (row + 1) next rest,
     )
 
-pub line_stretches-le : (document : DocumentState) (outdents : Bool) → length (line_stretches document outdents) ≤ length (lines document.text)
+pub line_stretches-le : (document : DocumentState) (outdents : Option CursorUnit) → length (line_stretches document outdents) ≤ length (lines document.text)
 line_stretches-le document outdents = stretches_from-le document outdents 0 0 (lines document.text)
 
 -- the tabs of so few stretches can be counted

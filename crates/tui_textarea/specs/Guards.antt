@@ -9,7 +9,7 @@ use Rattle.textarea_calls.specs.declared.call.Call.TheVariants as call
 use Rattle.textarea_data.specs.declared.range.AtomicCursorBias.TheVariants.{Forward}
 use Rattle.textarea_data.specs.declared.range.AtomicDeleteDirection.{AtomicDeleteDirection}
 use Rattle.textarea_data.specs.declared.range.AtomicRange.{AtomicRange}
-use Rattle.textarea_document.specs.DocumentState.{lines_replaced}
+use Rattle.textarea_document.specs.DocumentState.{history_forgotten, lines_replaced}
 use Rattle.textarea_document.specs.Edits.{range_at_cursor}
 use Rattle.textarea_document.specs.Replacing.{range_splices, replaces}
 use Rattle.textarea_search.specs.declared.search.text_matches.TextMatch.{TextMatch}

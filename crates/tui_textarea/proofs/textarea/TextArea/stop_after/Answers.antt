@@ -9,10 +9,10 @@ use Rattle.tui_textarea.proofs.WholeRemovals.{ahead_made, else_elsewhere, past_e
 use Rattle.tui_textarea.proofs.textarea.TextArea.stop_after.Goals as goal
 
 -- the position after the next character
-after_is : (c : goal.After-stop_of) → (c.cursor-row.result.0, c.cursor-row.result.1 + 1) ≡ past_cursor c.args.self.now.document
+after_is : (c : goal.After-stop_of-stop) → (c.cursor-row.result.0, c.cursor-row.result.1 + 1) ≡ past_cursor c.args.self.now.document
 after_is c = ap (λ (p : Place). (p.0, p.1 + 1)) (c.cursor-row.ensures.value ∙ ap (λ (s : State). s.document.cursor) c.self.view_is)
 
-stop_is : (c : goal.After-stop_of) → c.stop_of-stop.result ≡ stop_of Forward c.args.self.now.document (past_cursor c.args.self.now.document)
+stop_is : (c : goal.After-stop_of-stop) → c.stop_of-stop.result ≡ stop_of Forward c.args.self.now.document (past_cursor c.args.self.now.document)
 stop_is c = c.stop_of-stop.ensures.value ∙ ap (stop_of Forward c.args.self.now.document) (after_is c)
 
 pub returns-then-stop-after-clause-value : goal.returns-then-stop-after-clause-value
@@ -41,6 +41,6 @@ returns-then-column-end-clause-value c =
     let cursor = c.cursor-row.ensures.value ∙ ap (λ (s : State). s.document.cursor) c.self.view_is in
     let rows = c.lines.ensures.lines ∙ ap (λ (s : State). lines s.document.text) c.self.view_is in
     let at_end : document.cursor.1 ≡ length (line_of (lines document.text) document.cursor.0) =
-    ap (λ (p : Place). p.1) (sym cursor) ∙ c.if-column-end.true ∙ ap (λ (p : Place). p.1) c.line_end.ensures.value
+    ap (λ (p : Place). p.1) (sym cursor) ∙ c.if-column-end.true ∙ ap (λ (p : Place). p.1) c.line_end-end.ensures.value
     ∙ ap (λ r. length (line_of r c.cursor-row.result.0)) rows ∙ ap (λ (p : Place). length (line_of (lines document.text) p.0)) cursor in
     same_elsewhere (past_cursor document) (stop_of Forward document (past_cursor document)) (past_cursor document) (sym (past_end document at_end)) refl

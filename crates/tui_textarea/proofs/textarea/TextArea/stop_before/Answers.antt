@@ -8,12 +8,12 @@ use Rattle.tui_textarea.proofs.WholeRemovals.{back_made, else_elsewhere, same_el
 use Rattle.tui_textarea.proofs.textarea.TextArea.stop_before.Goals as goal
 
 -- the position before the cursor
-before_is : (c : goal.After-stop_of) → (c.cursor-row.result.0, c.saturating_sub-before.result) ≡ before_cursor c.args.self.now.document
+before_is : (c : goal.After-stop_of-start) → (c.cursor-row.result.0, c.saturating_sub-before.result) ≡ before_cursor c.args.self.now.document
 before_is c =
     ap (λ n. (c.cursor-row.result.0, n)) c.saturating_sub-before.ensures
     ∙ ap (λ (p : Place). (p.0, p.1 - 1)) (c.cursor-row.ensures.value ∙ ap (λ (s : State). s.document.cursor) c.self.view_is)
 
-stop_is : (c : goal.After-stop_of) → c.stop_of-start.result ≡ stop_of Backward c.args.self.now.document (before_cursor c.args.self.now.document)
+stop_is : (c : goal.After-stop_of-start) → c.stop_of-start.result ≡ stop_of Backward c.args.self.now.document (before_cursor c.args.self.now.document)
 stop_is c = c.stop_of-start.ensures.value ∙ ap (stop_of Backward c.args.self.now.document) (before_is c)
 
 pub returns-then-start-before-clause-value : goal.returns-then-start-before-clause-value
@@ -29,7 +29,7 @@ returns-clause-value c =
     (λ e. c.if-start-before.false (e ∙ sym (ap (λ (p : Place). p.1) (before_is c))))
 
 -- the removal from there to the cursor has something to remove
-made : (c : goal.After-stop_of) → Some c.stop_of-start.result ≡ if_elsewhere (before_cursor c.args.self.now.document) (stop_of Backward c.args.self.now.document (before_cursor c.args.self.now.document))
+made : (c : goal.After-stop_of-start) → Some c.stop_of-start.result ≡ if_elsewhere (before_cursor c.args.self.now.document) (stop_of Backward c.args.self.now.document (before_cursor c.args.self.now.document))
     → HasEffect c.args.self.now.document (Remove c.stop_of-start.result c.args.self.now.document.cursor)
 made c is =
     let document = c.args.self.now.document in
