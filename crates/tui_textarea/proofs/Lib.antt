@@ -28,7 +28,7 @@ pub mod Ends
 mod TypedLines
 mod MatchOrder
 mod MatchSteps
-mod MatchWalk
+pub mod MatchWalk
 mod OneTarget
 pub mod Frames
 mod OneAct
