@@ -8,7 +8,7 @@ use tui_textarea::ratatui::text::{Line, Span, Text};
 use tui_textarea::ratatui::widgets::{Block, Borders, Padding, Widget};
 use tui_textarea::{
     AtomicCursorBias, AtomicDeleteDirection, AtomicRange, AtomicRangeRejectReason, CursorMove,
-    CursorRenderMode, Input, Key, Scrolling, SearchError, TextArea, WrapMode,
+    CursorRenderMode, CursorUnit, Input, Key, Scrolling, SearchError, TextArea, WrapMode,
 };
 
 fn row_of(buffer: &Buffer, y: u16) -> String {
@@ -226,6 +226,21 @@ fn max_chars() {
     assert_eq!(area.lines(), ["a\u{301}xyone"]);
     area.set_max_chars(Some(0));
     assert_eq!(area.max_chars(), Some(0));
+}
+
+#[test]
+fn cursor_unit() {
+    let mut area = TextArea::from(["e\u{301}x"]);
+    assert_eq!(area.cursor_unit(), CursorUnit::Character);
+    area.move_cursor(CursorMove::Forward);
+    assert_eq!(area.cursor(), (0, 1));
+    area.set_cursor_unit(CursorUnit::Cluster);
+    assert_eq!(area.cursor_unit(), CursorUnit::Cluster);
+    assert_eq!(area.cursor(), (0, 2));
+    area.set_search_pattern("e").unwrap();
+    assert_eq!((area.match_count(), area.replace_all("a")), (0, 0));
+    assert!(area.delete_char());
+    assert_eq!(area.lines(), ["x"]);
 }
 
 #[test]
