@@ -325,7 +325,10 @@ fn ranges() {
     area.set_undo_ranges(true);
     area.set_atomic_ranges([range(0, 0, 4)]);
     assert!(area.undo_ranges());
-    assert_eq!(area.delete_atomic_range_at_cursor(back), Some(range(0, 0, 4)));
+    assert_eq!(
+        area.delete_atomic_range_at_cursor(back),
+        Some(range(0, 0, 4))
+    );
     assert_eq!(area.atomic_ranges(), []);
     assert!(area.undo());
     assert_eq!(area.atomic_ranges(), [range(0, 0, 4)]);
