@@ -28,7 +28,7 @@ pub mod Ends
 mod TypedLines
 mod MatchOrder
 mod MatchSteps
-mod MatchWalk
+pub mod MatchWalk
 mod MatchesOfLines
 mod OneTarget
 pub mod Frames
