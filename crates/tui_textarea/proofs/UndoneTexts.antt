@@ -107,7 +107,7 @@ steps_back state restores =
       fewer = λ new found is.
           let some = (undoes_parts state found).1 in
           subst (λ (s : State). done_groups s.document.log < done_groups document.log) (sym (undone_is state new found is ∙ settled_as Forward (with_document state (after_undo document))))
-              (omega (arith, one_less document restores some, some_groups document.log some));
+          (omega (arith, one_less document restores some, some_groups document.log some));
       last = λ written editable none other h. other (at_last document written h.0 (nothing_found state editable none) h.1 h.2);
       editable = stays_editable state;
     }
