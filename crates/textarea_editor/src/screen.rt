@@ -1,7 +1,7 @@
 //! The terminal's side of an editor: its bytes as events, and frames as its bytes.
 
 ghost use Rattle.std.specs.List.{list_any};
-ghost use Rattle.std.specs.Prelude.{◌≡◌, ◌×◌, ◌⊎◌, ◌++◌, [], None, true, false, map, IfOk, OnErr, OnOk};
+ghost use Rattle.std.specs.Prelude.{◌≡◌, ◌⊎◌, ◌++◌, None, true, false, map, IfOk, OnErr, OnOk};
 ghost use Rattle.textarea_editor.specs.Editor.{draft_of, end_of};
 ghost use Rattle.textarea_editor.specs.TerminalScreen.{IsFitted, IsFrameShown, clipboard_bytes, events_read, pause_of, reports_size, screen_read};
 ghost use Rattle.textarea_terminal.specs.InputEvent.{value_of};
@@ -69,7 +69,7 @@ impl Screen {
     /// Tells whether the terminal is the Linux console.
     pub fn set_console(&mut self, console: bool)
         ensures { self.new ≡ record self.old {
-            decoder = with_expected self.old.decoder (on_console console self.old.decoder.expected);
+          decoder = with_expected self.old.decoder (on_console console self.old.decoder.expected);
         } }
     {
         self.decoder.set_console(console);
@@ -188,7 +188,7 @@ fn pause(time: Duration) -> u32
 }
 
 fn any_reports_size(events: &[Event]) -> bool
-    ensures { result ≡ list_any reports_size (map value_of events.now) }
+    ensures { result ≡ list_any (λ event. reports_size (value_of event)) events.now }
 {
     events.iter().any(|event| reports_size(event))
 }
