@@ -1,11 +1,11 @@
-use Rattle.std.proofs.Common.{◌≡◌, ◌∙◌, ℕ, ◌+◌, ◌-◌, ◌<◌, ◌≤◌, ◌&&◌, Bool, true, false, cond, List, [], ◌∷◌, ◌++◌, ap, append_assoc, arith, drop, encode_utf8_all, get_or, length, subst, sym, take}
+use Rattle.std.proofs.Common.{◌≡◌, ◌∙◌, ℕ, ◌+◌, ◌-◌, ◌<◌, ◌≤◌, ◌&&◌, Bool, true, false, cond, List, [], ◌∷◌, ◌++◌, ap, append_assoc, arith, drop, encode_utf8_all, get_or, length, refl, subst, sym, take}
 use Rattle.std.specs.Prelude.{filter}
 use Rattle.std.specs.Str.{chars}
-use Rattle.std.proofs.lemmas.List.{drop_more}
+use Rattle.std.proofs.lemmas.List.{drop_more, length-map}
 use Rattle.textarea_clusters.specs.Edges.{is_cluster_edge}
 use Rattle.textarea_search.specs.declared.search.text_matches.TextMatch.{TextMatch}
 use Rattle.textarea_text.specs.Place.{line_of}
-use Rattle.textarea_text.specs.Text.{lines_of}
+use Rattle.textarea_text.specs.Text.{characters_of, lines_of}
 use Rattle.textarea_text.proofs.StringRows.{line_at}
 use Rattle.tui_textarea.specs.WholeMatches.{IsMatchOfLines, cuts_no_cluster}
 use Rattle.tui_textarea.proofs.matches.between_clusters.Goals as goal
@@ -53,8 +53,9 @@ loop-found-preserved c =
     let test = cuts_no_cluster first rows in
     let within : IsMatchOfLines first rows found = c.requires.within index no_match c.loop-found-test.true in
     let same : row ≡ found.row = elim c.if-found-row.branch [ then-found-row w ↦ w.row-is | else-found-row w ↦ w.row-is ∙ sym w.if-found-row.false ] in
+    let fits : row - first < length c.args.lines.now = omega (arith, same, within.row_from, within.row_before, length-map c.args.lines.now characters_of) in
     let line : chars c.as_str-line.result.now ≡ line_of rows (row - first) =
-    ap chars c.as_str-line.ensures.value ∙ sym (line_at c.args.lines.now (row - first) c.index-lines-row.result (omega arith) c.index-lines-row.is) in
+    ap chars c.as_str-line.ensures.value ∙ sym (line_at c.args.lines.now (row - first) c.index-lines-row.result fits c.index-lines-row.is) in
     let known = known_next first rows row found (chars c.as_str-line.result.now) c.has_edges-keeps.result.1 same line within c.has_edges-keeps.ensures.column c.has_edges-keeps.ensures.offset in
     let keeps = keeps_is first rows row found (chars c.as_str-line.result.now) c.has_edges-keeps.result.0 same line c.has_edges-keeps.ensures.edges in
     let so_far : c.loop-found.kept.items ++ filter test (found ∷ rest) ≡ filter test all =
@@ -63,7 +64,7 @@ loop-found-preserved c =
       known.1,
       known.2,
       elim c.if-keeps.branch [
-        | then-keeps+in_ok-push w ↦ kept_more test c.loop-found.kept.items c.if-keeps.kept.items rest (filter test all) found (cc) (sym keeps ∙ w.if-keeps.true) so_far
-        | else-keeps w ↦ kept_same test c.loop-found.kept.items c.if-keeps.kept.items rest (filter test all) found (cc) (sym keeps ∙ w.if-keeps.false) so_far
+        | then-keeps+in_ok-push w ↦ kept_more test c.loop-found.kept.items c.if-keeps.kept.items rest (filter test all) found (rw w.kept-is w.in_ok-push.ensures.items) (sym keeps ∙ w.if-keeps.true) so_far
+        | else-keeps w ↦ kept_same test c.loop-found.kept.items c.if-keeps.kept.items rest (filter test all) found (rw w.kept-is refl) (sym keeps ∙ w.if-keeps.false) so_far
       ],
     )
