@@ -1,5 +1,5 @@
 -- The matches that are replaced, and the states after replacements.
-use Rattle.std.specs.Prelude.{ℕ, ◌==◌, not, Bool, false, List, [], Option, None, Some}
+use Rattle.std.specs.Prelude.{ℕ, not, false, List, [], Option, None, Some}
 use Rattle.textarea_text.specs.Place.{Place}
 use Rattle.textarea_text.specs.Splice.{Splice}
 use Rattle.textarea_text.specs.Text.{Symbol, lines}
