@@ -1,5 +1,5 @@
 -- Cursor and anchor that are moved out of clusters and ranges: what stays, and where they are then.
-use Rattle.std.proofs.Common.{◌≡◌, ◌∙◌, ℕ, Bool, if◌then◌else◌, List, true, false, Option, None, Some, IfSome, option_map, ap, refl, subst, sym}
+use Rattle.std.proofs.Common.{◌≡◌, ℕ, Bool, if◌then◌else◌, List, true, false, Option, None, Some, IfSome, option_map, ap, refl, subst, sym}
 use Rattle.textarea_clusters.proofs.StopPlaces.{stop_ahead_is_stop, stop_ahead_place, stop_ahead_same, stop_back_is_stop, stop_back_place, stop_back_same}
 use Rattle.textarea_data.specs.declared.cursor.CursorUnit.{CursorUnit}
 use Rattle.textarea_data.specs.declared.cursor.CursorUnit.TheVariants as unit

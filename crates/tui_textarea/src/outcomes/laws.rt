@@ -150,16 +150,16 @@ pub fn settled_runs_stay()
 }
 
 /// If the cursor goes by clusters, what the first removal of a call takes begins and ends where neither
-/// a cluster nor an atomic range of the text strictly contains the position. So are all matches that
+/// a cluster nor an atomic range of the text strictly contains the position. So do all matches that
 /// `replace_all` replaces, and all that `outdent_lines` removes. `delete_str`, undo and redo may take
 /// parts of clusters.
 pub fn removals_take_whole_clusters()
     ensures first { (state : State) (call : Call) → IsSound state.document →
         GoesByClusters state → IsSettled state → ¬ TakesParts call →
         FirstTakesWhole state.document (splices_of state call) }
-    ensures matches { (state : State) → IsSound state.document → GoesByClusters state →
+    ensures matches { (state : State) → GoesByClusters state →
         AreWholeStretches state.document (replaceable state) }
-    ensures starts { (state : State) → IsSound state.document →
+    ensures starts { (state : State) →
         AreWholeStretches state.document (line_stretches state.document (Some Cluster)) }
 {}
 
