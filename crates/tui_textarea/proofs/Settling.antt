@@ -95,8 +95,8 @@ pub closed_settled : (opens : Bool) (bias : AtomicCursorBias) (state : State) �
 unfolding settled
 closed_settled opens bias state = by state.settings.cursor_unit bias
   where
-    by : (found : CursorUnit) (toward : AtomicCursorBias) → closed_if opens (settled_for found toward state) ≡ settled_for found toward (closed_if opens state)
-    by unit.Character toward = refl
+    by : (found : CursorUnit) (way : AtomicCursorBias) → closed_if opens (settled_for found way state) ≡ settled_for found way (closed_if opens state)
+    by unit.Character _ = refl
     by unit.Cluster Backward = refl
     by unit.Cluster Forward = refl
 
