@@ -43,7 +43,7 @@ use Rattle.textarea_editor.specs.declared.keys.TheConstants.{BINDINGS}
 use Rattle.textarea_editor.specs.declared.replace_keys.ReplaceKey.{ReplaceKey}
 use Rattle.textarea_editor.specs.declared.replace_keys.ReplaceKey.TheVariants as replace
 use Rattle.textarea_editor.specs.declared.search.SearchOptions.{SearchOptions}
-use Rattle.textarea_modal.specs.Table.{passed_on, step}
+use Rattle.textarea_modal.specs.Table.{step}
 use Rattle.textarea_modal.specs.declared.mode.Mode.{Mode}
 use Rattle.textarea_screen.specs.Style.{empty_style}
 use Rattle.textarea_screen.specs.declared.screen.color.Color.TheVariants.{DarkGray}

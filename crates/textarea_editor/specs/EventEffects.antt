@@ -1,6 +1,6 @@
 -- What each event asks the program to do, as a table: by what the next key is for, the key, and the
 -- command that it is bound to.
-use Rattle.std.specs.Prelude.{◌≡◌, ◌≢◌, ℕ, Bool, true, false, List, [], Option, None, Some, String, if◌then◌else◌, is_some}
+use Rattle.std.specs.Prelude.{◌≡◌, ◌≢◌, ℕ, Bool, true, false, List, [], Option, None, Some, String, is_some}
 use Rattle.std.specs.Str.{chars}
 use Rattle.std.specs.declared.alloc.Global.{Global}
 use Rattle.textarea_data.specs.declared.input.Input.{Input}
@@ -15,7 +15,7 @@ use Rattle.textarea_editor.specs.Replies.{reply_of}
 use Rattle.textarea_editor.specs.TypedInput.{typed_input}
 use Rattle.textarea_editor.specs.declared.controls.Controls.{Controls}
 use Rattle.textarea_editor.specs.declared.effect.Effect.{Effect}
-use Rattle.textarea_editor.specs.declared.effect.Effect.TheVariants.{Copy, Nothing, Quit, Save}
+use Rattle.textarea_editor.specs.declared.effect.Effect.TheVariants.{Copy, Nothing, Quit}
 use Rattle.textarea_editor.specs.declared.focus.Asked.{Asked}
 use Rattle.textarea_editor.specs.declared.focus.Asked.TheVariants as asks
 use Rattle.textarea_editor.specs.declared.focus.Focus.{Focus}
@@ -28,7 +28,7 @@ use Rattle.textarea_editor.specs.declared.keys.KeyCommand.{KeyCommand}
 use Rattle.textarea_editor.specs.declared.keys.KeyCommand.TheVariants as command
 use Rattle.textarea_editor.specs.declared.replace_keys.ReplaceKey.{ReplaceKey}
 use Rattle.textarea_editor.specs.declared.replace_keys.ReplaceKey.TheVariants as replace
-use Rattle.textarea_modal.specs.Table.{Step, step}
+use Rattle.textarea_modal.specs.Table.{step}
 use Rattle.textarea_modal.specs.declared.mode.Mode.{Mode}
 use Rattle.textarea_terminal.specs.declared.input.event.Event.{Event}
 use Rattle.textarea_terminal.specs.declared.input.event.Event.TheVariants as event

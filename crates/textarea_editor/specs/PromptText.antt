@@ -1,5 +1,5 @@
 -- The text that the prompt has when it is opened.
-use Rattle.std.specs.Prelude.{ℕ, List, Option, None, Some, String, string_bytes}
+use Rattle.std.specs.Prelude.{Option, None, Some, String, string_bytes}
 use Rattle.std.specs.Str.{chars}
 use Rattle.std.specs.declared.alloc.Global.{Global}
 use Rattle.textarea_editor.specs.Patterns.{first_line}
