@@ -8,6 +8,7 @@ use Rattle.textarea_editor.specs.declared.file_text.LineEnd.TheVariants.{LineFee
 use Rattle.textarea_editor.specs.declared.focus.Focus.TheVariants as focus
 use Rattle.textarea_editor.specs.declared.focus.Question.TheVariants.{SaveFirst}
 use Rattle.textarea_editor.specs.declared.message.Message.{Message}
+use Rattle.textarea_screen.specs.declared.screen.rect.Rect.{Rect}
 use Rattle.tui_textarea.specs.State.{State}
 
 -- the text area, and whether its text may differ from the saved one
@@ -52,6 +53,13 @@ screen_columns_of editor = editor.columns
 
 abbrev pub screen_rows_of : Editor → ℕ
 screen_rows_of editor = editor.rows
+
+-- the cells of the screen
+pub record IsScreenArea (editor : Editor) (area : Rect) : Type 0 where
+  pub column : area.x ≡ 0
+  pub row : area.y ≡ 0
+  pub width : area.width ≡ editor.columns
+  pub height : area.height ≡ editor.rows
 
 -- the next key answers whether to save before the program ends
 abbrev pub AsksToSave : Editor → Type 0

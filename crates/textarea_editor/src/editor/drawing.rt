@@ -1,7 +1,7 @@
 // Drawing of a frame: the text or the help, and below it the status row.
 ghost use Rattle.std.specs.Prelude.{◌≡◌, ◌≤◌, ◌-◌, IfOk, OnOk, length, string_bytes};
 ghost use Rattle.std.specs.Str.{chars};
-ghost use Rattle.textarea_editor.specs.Editor.{ShowsHelp, controls_of, draft_of, end_of, field_of, screen_columns_of, screen_rows_of};
+ghost use Rattle.textarea_editor.specs.Editor.{IsScreenArea, ShowsHelp, controls_of, draft_of, end_of, field_of, screen_columns_of, screen_rows_of};
 ghost use Rattle.textarea_editor.specs.Screen.{IsFrameCaret, IsPainted};
 ghost use Rattle.textarea_editor.specs.StatusRow.{IsAskedBefore, IsAskedInLast, IsAskedInRow, at_left, is_from, line_of_words, row_style};
 ghost use Rattle.textarea_paint.specs.Row.{row_cell};
@@ -27,7 +27,9 @@ pub struct DrawnFrame {
 
 impl Editor {
     /// Returns the area of the screen's cells.
-    pub fn screen_area(&self) -> Rect {
+    pub fn screen_area(&self) -> Rect
+        ensures { IsScreenArea self.now result }
+    {
         Rect::new(0, 0, self.columns, self.rows)
     }
 
