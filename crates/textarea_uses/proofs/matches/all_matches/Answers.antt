@@ -47,7 +47,7 @@ pub steps-smaller : goal.steps-smaller
 steps-smaller c =
     let text = c.args.area.now.document.text in
     let old = c.steps.area.document.cursor in
-    let new = c.step-after.new.area.document.cursor in
+    let new = c.step.new.area.document.cursor in
     subst (λ (b : Bool). cond c.in_ok-after.after (length text - index_of text new + 1) 0 < cond b (length text - index_of text old + 1) 0) (sym c.steps-test.true)
     (smaller c.in_ok-after.after (length text) (index_of text old) (index_of text new)
     (λ goes. subst (λ (t : List Symbol). index_of t old < index_of t new) c.steps.invariant.0 (c.in_ok-after.ensures.ahead goes))
