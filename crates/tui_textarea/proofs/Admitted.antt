@@ -6,7 +6,6 @@ use Rattle.std.proofs.lemmas.Bool.Decides.{nat_tests}
 use Rattle.std.specs.Option.{MatchOption}
 use Rattle.textarea_clusters.specs.Edges.{edge_back}
 use Rattle.textarea_clusters.proofs.EdgeLemmas.{edge_at_end, edge_back_is}
-use Rattle.textarea_document.specs.Edits.{has_symbols}
 use Rattle.textarea_document.specs.Selection.{is_selected}
 use Rattle.textarea_text.specs.Between.{symbols_between}
 use Rattle.textarea_text.specs.Place.{Place, index_of, line_of, place_of}
@@ -15,7 +14,7 @@ use Rattle.textarea_text.proofs.PlaceLemmas.{is_at_end}
 use Rattle.textarea_text.proofs.TextPlaces.{joined-lines}
 use Rattle.tui_textarea.specs.Edits.{inserts_text}
 use Rattle.tui_textarea.specs.Fitting.{beginning, cluster_end, fits_each, fits_for, fitting_beside, fitting_selection, is_allowed}
-use Rattle.tui_textarea.specs.Guards.{admitted, admitted_over_selection}
+use Rattle.tui_textarea.specs.Guards.{admitted_over_selection}
 use Rattle.tui_textarea.specs.Selection.{unselected}
 use Rattle.tui_textarea.specs.State.{State}
 use Rattle.tui_textarea.proofs.Guarded.{admitted_none}

@@ -1,5 +1,5 @@
 -- The matches of a pattern rise: each starts after the start of the one before it.
-use Rattle.std.proofs.Common.{◌≡◌, ◌∙◌, ℕ, zero, suc, ◌+◌, ◌-◌, ◌<◌, ◌≤◌, List, [], ◌∷◌, ◌++◌, map, length, get_or, Option, None, Some, sym, ap, subst, inl, inr, ⊎_elim, arith, true, false, refl}
+use Rattle.std.proofs.Common.{◌≡◌, ◌∙◌, ℕ, zero, suc, ◌+◌, ◌<◌, ◌≤◌, List, [], ◌∷◌, ◌++◌, map, length, get_or, Option, None, Some, sym, ap, subst, inl, inr, ⊎_elim, arith, true, false, refl}
 use Rattle.std.proofs.Common.{IsUtf8, IsCharBoundary, encode_utf8_all, String, string_bytes, Global}
 use Rattle.std.specs.Prelude.{All}
 use Rattle.std.specs.Option.{option_map_or}

@@ -1,5 +1,5 @@
 -- The positions of lines that follow others in a text, as indices of its symbols.
-use Rattle.std.proofs.Common.{◌≡◌, ◌∙◌, ◌<◌, ◌≤◌, ◌+◌, ◌-◌, ℕ, List, [], ◌∷◌, length, drop, get_or, ap, arith, refl, subst, sym}
+use Rattle.std.proofs.Common.{◌≡◌, ◌∙◌, ◌<◌, ◌≤◌, ◌+◌, ℕ, List, [], ◌∷◌, length, drop, get_or, ap, arith, refl, subst, sym}
 use Rattle.std.proofs.lemmas.List.{drop_more, get_or-drop, length-drop}
 use Rattle.textarea_text.specs.Place.{IsPlace, index_of, line_of, place_of, row_start}
 use Rattle.textarea_text.specs.Text.{Symbol, lines}

@@ -1,5 +1,5 @@
 -- Cursor and anchor that are moved out of clusters and ranges: what stays, and where they are then.
-use Rattle.std.proofs.Common.{◌≡◌, ◌∙◌, ℕ, Bool, if◌then◌else◌, List, true, false, Option, None, Some, IfSome, option_map, ap, refl, subst, sym}
+use Rattle.std.proofs.Common.{◌≡◌, ℕ, Bool, if◌then◌else◌, List, true, false, Option, None, Some, IfSome, option_map, ap, refl, subst, sym}
 use Rattle.textarea_clusters.proofs.StopPlaces.{stop_ahead_is_stop, stop_ahead_place, stop_ahead_same, stop_back_is_stop, stop_back_place, stop_back_same}
 use Rattle.textarea_data.specs.declared.cursor.CursorUnit.{CursorUnit}
 use Rattle.textarea_data.specs.declared.cursor.CursorUnit.TheVariants as unit
@@ -95,8 +95,8 @@ pub closed_settled : (opens : Bool) (bias : AtomicCursorBias) (state : State) �
 unfolding settled
 closed_settled opens bias state = by state.settings.cursor_unit bias
   where
-    by : (found : CursorUnit) (toward : AtomicCursorBias) → closed_if opens (settled_for found toward state) ≡ settled_for found toward (closed_if opens state)
-    by unit.Character toward = refl
+    by : (found : CursorUnit) (way : AtomicCursorBias) → closed_if opens (settled_for found way state) ≡ settled_for found way (closed_if opens state)
+    by unit.Character _ = refl
     by unit.Cluster Backward = refl
     by unit.Cluster Forward = refl
 

@@ -4,7 +4,7 @@ use Rattle.textarea_text.specs.Text.{lines_of}
 use Rattle.tui_textarea.specs.Guards.{bars_lines}
 use Rattle.tui_textarea.specs.LayoutCalls.{alignment_set, mode_set, line_numbers_set, tab_length_set}
 use Rattle.tui_textarea.specs.State.{State}
-use Rattle.std.specs.Prelude.{Bool, List, [], true, false}
+use Rattle.std.specs.Prelude.{Bool, [], true, false}
 use Rattle.tui_textarea.specs.CallSplices.{splices_of}
 use Rattle.textarea_calls.specs.declared.call.Call.{Call}
 use Rattle.textarea_calls.specs.declared.call.Call.TheVariants.{SetLines, SetTabLength, SetWrapMode, SetLineNumberStyle, RemoveLineNumber, SetAlignment, Render}

@@ -1,5 +1,5 @@
 -- What still fits into a text that has at most so many symbols.
-use Rattle.std.specs.Prelude.{ℕ, ◌+◌, ◌-◌, ◌*◌, ◌&&◌, ◌||◌, Bool, List, Option, None, Some, drop, length, min, nat_le, not, take, false, true, [], ◌∷◌}
+use Rattle.std.specs.Prelude.{ℕ, ◌+◌, ◌-◌, ◌*◌, ◌&&◌, ◌||◌, Bool, List, Option, None, Some, drop, length, min, nat_le, not, take, true, [], ◌∷◌}
 use Rattle.textarea_clusters.specs.Edges.{edge_back}
 use Rattle.textarea_document.specs.Indenting.{line_stretches, tab_of}
 use Rattle.textarea_document.specs.Replacing.{stretch_symbols}

@@ -1,5 +1,5 @@
 -- The matches that are replaced, and the states after replacements.
-use Rattle.std.specs.Prelude.{ℕ, ◌==◌, not, Bool, false, List, [], Option, None, Some}
+use Rattle.std.specs.Prelude.{ℕ, not, false, List, [], Option, None, Some}
 use Rattle.textarea_text.specs.Place.{Place}
 use Rattle.textarea_text.specs.Splice.{Splice}
 use Rattle.textarea_text.specs.Text.{Symbol, lines}
@@ -45,7 +45,7 @@ abbrev pub stretches_replaced : State → List (ℕ × ℕ) → List Symbol → 
 stretches_replaced state stretches symbols =
     with_document state (all_replaced state.document stretches symbols state.time)
 
--- each match that can be replaced is
+-- so is each match that can be replaced
 abbrev pub matches_replaced : State → List Symbol → State
 matches_replaced state symbols = stretches_replaced state (replaceable state) symbols
 

@@ -38,6 +38,7 @@ kept_same : (test : TextMatch → Bool) (kept new rest all : List TextMatch) (fo
 kept_same test kept new rest all found is fails so_far =
     ap (λ (l : List TextMatch). l ++ filter test rest) is ∙ ap (λ (b : Bool). kept ++ cond b (found ∷ filter test rest) (filter test rest)) (sym fails) ∙ so_far
 
+-- the match that stands for one past the end of a list
 abbrev no_match : TextMatch
 no_match = record { row = 0; columns = (0, 0); indices = (0, 0) }
 

@@ -1,4 +1,4 @@
-use Rattle.std.proofs.Common.{◌≡◌, ◌∙◌, ◌-◌, ap, arith, is_some, length, not, sym}
+use Rattle.std.proofs.Common.{◌∙◌, ◌-◌, ap, arith, is_some, length, not, sym}
 use Rattle.std.specs.Str.{chars}
 use Rattle.textarea_document.specs.Replacing.{stretch_end, stretch_start, stretch_symbols}
 use Rattle.textarea_text.specs.Fragment.{fragment_symbols}

@@ -1,5 +1,4 @@
-use Rattle.std.proofs.Common.{◌∙◌, ap, ap₂}
-use Rattle.tui_textarea.specs.Moves.{after_move_by, bias_of, pushed}
+use Rattle.std.proofs.Common.{◌∙◌, ap₂}
 use Rattle.tui_textarea.specs.Units.{settled}
 use Rattle.tui_textarea.proofs.textarea.TextArea.move_with_shift.Goals as goal
 

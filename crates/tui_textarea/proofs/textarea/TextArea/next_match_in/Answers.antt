@@ -1,9 +1,7 @@
 use Rattle.std.proofs.Common.{◌≡◌, ◌∙◌, IfOk, List, Option, ap, subst, sym}
-use Rattle.std.specs.Result.{OnOk}
-use Rattle.std.specs.Prelude.{IfSome}
 use Rattle.textarea_data.specs.declared.cursor.CursorUnit.{CursorUnit}
 use Rattle.textarea_data.specs.declared.cursor.CursorUnit.TheVariants as unit
-use Rattle.textarea_text.specs.Place.{IsPlace, Place}
+use Rattle.textarea_text.specs.Place.{Place}
 use Rattle.textarea_text.specs.Text.{lines}
 use Rattle.textarea_search.specs.Starts.{found_start}
 use Rattle.textarea_search.specs.declared.search.direction.Direction.TheVariants.{Forward}

@@ -1,10 +1,10 @@
-use Rattle.std.proofs.Common.{◌≡◌, ◌∙◌, ◌<◌, ℕ, true, Ok, Option, Some, ap, arith, length, not, subst, sym}
+use Rattle.std.proofs.Common.{◌≡◌, ◌∙◌, ◌<◌, ℕ, true, Ok, Option, ap, arith, length, not, subst, sym}
 use Rattle.std.proofs.lemmas.Bool.{ne_eqb, true≢false}
 use Rattle.std.proofs.lemmas.Result.{on_ok_weaker}
 use Rattle.textarea_text.specs.Place.{IsPlace, Place, index_of}
 use Rattle.textarea_text.proofs.TextPlaces.{index_within}
 use Rattle.textarea_document.specs.Edits.{between_removed, cursor_index, removed_after}
-use Rattle.textarea_document.specs.Prelude.{as_nanos}
+use Rattle.std.specs.Duration.{as_nanos}
 use Rattle.tui_textarea.specs.Removals.{has_after, removed_up_to}
 use Rattle.tui_textarea.specs.State.{State}
 use Rattle.tui_textarea.proofs.Lifted.{document_lifted}
@@ -35,7 +35,7 @@ returns-in_err-remove-clause-nothing c = λ none. absurd (true≢false (sym (has
 
 pub returns-clause-ok : goal.returns-clause-ok
 returns-clause-ok c =
-    document_lifted {E = ℕ} (Ok 0) (λ (s : State). between_removed s.document s.document.cursor c.in-Some.stop s.time) c.self.view_is c.remove.new.self
+    document_lifted {T = ℕ} {E = ℕ} (Ok 0) (λ (s : State). between_removed s.document s.document.cursor c.in-Some.stop s.time) c.self.view_is c.remove.new.self
     (c.in_ok-remove.ensures.ok ∙ ap (λ (p : Place). between_removed c.self.inside.document p c.in-Some.stop (as_nanos c.self.inside.time)) c.cursor.ensures.value)
     ∙ ap (λ (o : Option Place). removed_up_to o c.args.self.now) c.in-Some.ensures.value
 

@@ -12,7 +12,7 @@ use Rattle.tui_textarea.proofs.Unselected.{unselected_is}
 use Rattle.tui_textarea.proofs.textarea.TextArea.replace_by_fragment.Goals as goal
 
 -- what fits of the symbols
-fits : List Symbol → State → List Symbol
+abbrev fits : List Symbol → State → List Symbol
 fits symbols state = fitting_beside state.settings.max_chars (length state.document.text) symbols
 
 pub returns-clause-inserted : goal.returns-clause-inserted

@@ -1,11 +1,11 @@
-use Rattle.std.proofs.Common.{◌≡◌, ◌∙◌, ◌+◌, Option, Some, IfSome, ap, length, refl, subst, sym}
+use Rattle.std.proofs.Common.{◌≡◌, ◌∙◌, ◌+◌, Option, IfSome, ap, length, refl, subst, sym}
 use Rattle.textarea_data.specs.declared.range.AtomicCursorBias.TheVariants.{Forward}
 use Rattle.textarea_document.specs.Edits.{HasEffect, Remove}
 use Rattle.textarea_document.specs.Sound.{IsSound}
 use Rattle.textarea_text.specs.Place.{Place, line_of}
 use Rattle.textarea_text.specs.Text.{lines}
 use Rattle.tui_textarea.specs.State.{State}
-use Rattle.tui_textarea.specs.Units.{if_elsewhere, past_cursor, stop_of}
+use Rattle.tui_textarea.specs.Units.{past_cursor, stop_of}
 use Rattle.tui_textarea.proofs.WholeRemovals.{ahead_made, else_elsewhere, past_end, same_elsewhere}
 use Rattle.tui_textarea.proofs.textarea.TextArea.stop_after.Goals as goal
 use Rattle.tui_textarea.proofs.textarea.TextArea.stop_after.Goals.{After-stop_of-stop}
