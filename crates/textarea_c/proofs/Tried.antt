@@ -1,20 +1,12 @@
 -- What calls that may run out of memory leave, with the status of each.
-use Rattle.std.proofs.Common.{◌≡◌, ℕ, Bool, true, false, List, Option, Some, None, Result, Ok, Err, is_some, ap, ap₂, refl, subst, sym, ◌∙◌, arith}
-use Rattle.std.specs.Result.{IfOk, IsOk, OnErr, OnOk, MatchResult}
+use Rattle.std.proofs.Common.{◌≡◌, ℕ, Bool, true, false, Option, Some, None, Result, Ok, Err, is_some, ap, refl, subst, sym, arith}
+use Rattle.std.specs.Result.{IfOk, IsOk, OnErr, OnOk}
 use Rattle.std.specs.Prelude.{IfSome, IsSomeAnd, if◌then◌else◌}
 use Rattle.textarea_data.specs.declared.range.AtomicRange.{AtomicRange}
-use Rattle.textarea_data.specs.declared.range.AtomicRangeError.{AtomicRangeError}
-use Rattle.textarea_data.specs.declared.range.RejectedAtomicRange.{RejectedAtomicRange}
-use Rattle.textarea_ranges.specs.Rejected.{AreRejected}
-use Rattle.textarea_ranges.specs.Valid.{AreValid}
-use Rattle.textarea_text.specs.Text.{lines}
-use Rattle.textarea_data.specs.declared.range.AtomicCursorBias.TheVariants.{Forward}
-use Rattle.tui_textarea.specs.Ranges.{ranges_accepted}
-use Rattle.tui_textarea.specs.Units.{settled}
 use Rattle.tui_textarea.specs.State.{State}
 use Rattle.textarea_c.specs.declared.editor.Editor.{Editor}
 use Rattle.tui_textarea.specs.Selection.{IsInsertOutOfMemory}
-use Rattle.textarea_c.specs.Calls.{Calls, Inserts, Replaces, SetsValidRanges, Tells, Tries, TriesToInsert, with_area}
+use Rattle.textarea_c.specs.Calls.{Calls, Inserts, Replaces, Tells, Tries, TriesToInsert, with_area}
 use Rattle.textarea_c_data.specs.Ranges.{IsRangeOut}
 use Rattle.textarea_c_data.specs.declared.range.CRange.{CRange}
 use Rattle.textarea_util.proofs.Options.{none_of_test}
@@ -90,20 +82,6 @@ range_left hit area a new err nothing = (
   (λ less. absurd (omega arith)),
   (λ _. (refl, ap (with_area a) err)),
   ((λ none. absurd (omega arith)), (λ one. absurd (omega arith)), (λ none more. let never : false ≡ true = nothing (none_of_test hit none) in cc)),
-)
-
--- ranges that were set, or rejected
-pub ranges_set : {T : Type 0} (outcome : Result T AtomicRangeError) (status : ℕ) (ranges : List AtomicRange) (a b : Editor)
-    → MatchResult outcome (λ _. AreValid (lines a.area.document.text) ranges) (λ error. AreRejected (lines a.area.document.text) ranges error.rejected.items)
-    → OnOk outcome (b.area ≡ settled Forward (ranges_accepted a.area ranges)) → OnErr outcome (b.area ≡ a.area)
-    → MatchResult outcome (λ _. (status ≡ 0) × (b.rejected ≡ a.rejected)) (λ error. (status ≡ 4) × (b.rejected ≡ error.rejected))
-    → b ≡ record a { area = b.area; rejected = b.rejected } → SetsValidRanges ranges status a b
-ranges_set (Ok done) status ranges a b judged set left stored rest =
-    ((λ _. (judged, rest ∙ ap₂ (λ area rejected. record a { area = area; rejected = rejected }) set stored.1)), (λ four. absurd (omega arith)), (λ none four. absurd (none stored.0)))
-ranges_set (Err error) status ranges a b judged set left stored rest = (
-  (λ none. absurd (omega arith)),
-  (λ _. (subst (λ (r : List RejectedAtomicRange). AreRejected (lines a.area.document.text) ranges r) (ap (λ e. e.items) (sym stored.1)) judged, rest ∙ ap (λ (area : State). record a { area = area; rejected = b.rejected }) left)),
-  (λ none four. absurd (four stored.0)),
 )
 
 -- what holds of the editor that was taken and the one that is put back

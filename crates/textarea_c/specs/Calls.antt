@@ -1,22 +1,25 @@
 -- What exports return, and what is behind the handle after them. A status is 0 for ok, 1 for false,
 -- 2 for out of memory, 3 for a rejected pattern, 4 for rejected ranges, 5 for an empty handle, 6 for
 -- an invalid argument.
-use Rattle.std.specs.Prelude.{ℕ, ◌≡◌, ◌≢◌, ◌<◌, ◌≤◌, List, [], Bool, true, false, Option, Some, None, IsSomeAnd, MatchOption, if◌then◌else◌}
+use Rattle.std.specs.Prelude.{ℕ, ◌≡◌, ◌≢◌, ◌<◌, ◌≤◌, ◌||◌, List, [], Bool, true, false, not, Option, Some, None, IsSomeAnd, MatchOption, if◌then◌else◌}
+use Rattle.std.specs.Str.{chars}
 use Rattle.textarea_data.specs.declared.range.AtomicRange.{AtomicRange}
 use Rattle.textarea_ranges.specs.Rejected.{AreRejected}
 use Rattle.textarea_ranges.specs.Valid.{AreValid}
+use Rattle.textarea_text.specs.Fragment.{fragment_symbols}
 use Rattle.textarea_text.specs.Text.{lines}
 use Rattle.textarea_calls.specs.declared.call.Call.{Call}
-use Rattle.textarea_calls.specs.declared.call.Call.TheVariants as call
 use Rattle.textarea_screen.specs.declared.screen.style.Style.{Style}
 use Rattle.tui_textarea.specs.CallResults as reported
 use Rattle.tui_textarea.specs.CallResults.{CallResult}
 use Rattle.tui_textarea.specs.Calls.{NeedsMemory, result_of_call, state_after}
 use Rattle.tui_textarea.specs.Edits.{char_inserted}
-use Rattle.tui_textarea.specs.Guards.{bars_character, is_barred}
+use Rattle.tui_textarea.specs.Fitting.{fits_each}
+use Rattle.tui_textarea.specs.Guards.{admitted, bars_character}
 use Rattle.tui_textarea.specs.Input.{flag_of}
 use Rattle.tui_textarea.specs.Patterns.{IsNewPattern, MayRejectPattern}
 use Rattle.tui_textarea.specs.Ranges.{ranges_accepted}
+use Rattle.tui_textarea.specs.Replacing.{replaceable}
 use Rattle.textarea_search.specs.PlainTexts.{text_pattern}
 use Rattle.tui_textarea.specs.Search.{with_pattern, with_search_text}
 use Rattle.tui_textarea.specs.State.{State}
@@ -159,9 +162,10 @@ Replaces found area status a b =
     (status < 2 → b ≡ with_area a area) × (2 ≤ status → (status ≡ 2) × (b ≡ a))
     × (status ≡ 0 → found ≡ true) × (status ≡ 1 → found ≡ false)
 
--- the replacement of each match by this text is left out
+-- the replacement of each match by this text is left out: what is inserted doesn't fit, or the text
+-- area is read only
 abbrev pub bars_replacement : State → List ℕ → Bool
-bars_replacement state text = is_barred state (call.ReplaceAll (record { ref_ptr = (0, 0); now = text }))
+bars_replacement state text = not (fits_each state (replaceable state) (admitted state (fragment_symbols (chars text)))) || state.settings.read_only
 
 -- setting a pattern: a rejected one leaves the text area, and its error is stored; the empty and the
 -- present one are always set
