@@ -1,12 +1,15 @@
 //! Mentions: names in a text area that are atomic ranges.
-ghost use Rattle.std.specs.Prelude.{◌≡◌, ◌&&◌, Contains, is_some, not};
+ghost use Rattle.std.specs.Prelude.{◌≡◌, ◌&&◌, Contains, IfOk, drop, encode_utf8_all, is_some, not, string_bytes, take, true};
+ghost use Rattle.std.specs.Str.{chars};
 ghost use Rattle.gallery.specs.Mentions.{AreWhole, names};
+ghost use Rattle.textarea_ranges.specs.Moved.{covered_characters};
+ghost use Rattle.textarea_text.specs.Text.{lines};
 
 use crate::program::byte_of;
 use std::alloc::{AllocError, Global};
 use tui_textarea::input_laws::ranges_cover_as_before;
 use tui_textarea::laws::is_sound;
-use tui_textarea::outcomes::laws::{ranges_cover_no_more, splices_split_no_range};
+use tui_textarea::outcomes::laws::ranges_cover_no_more;
 use tui_textarea::{AtomicRange, AtomicRangeError, Input, Style, TextArea};
 
 /// Returns one of the names, by turns.
@@ -29,7 +32,9 @@ fn takes_whole_names(area: &TextArea<'_>) -> bool
     !area.read_only() && area.max_chars().is_none()
 }
 
-/// Inserts a name at the cursor as a mention, unless it could be cut. All mentions stay whole.
+/// Inserts a name at the cursor as a mention, unless it could be cut. The name is plain text if an
+/// accent after it joins its last letter and the cursor goes by clusters, since the cursor is then
+/// after the accent. All mentions stay whole.
 pub fn mention(
     area: &mut TextArea<'_>,
     alloc: Global,
@@ -40,7 +45,6 @@ pub fn mention(
 {
     is_sound(area);
     ranges_cover_no_more();
-    splices_split_no_range();
     if !takes_whole_names(area) {
         return Ok(Ok(()));
     }
@@ -48,13 +52,39 @@ pub fn mention(
     let (row, end_col) = area.cursor();
     // A name has a byte for each character.
     let start_col = end_col.saturating_sub(name.len());
-    let mut ranges = Vec::from_slice(alloc, area.atomic_ranges())?;
-    ranges.push(AtomicRange {
+    let range = AtomicRange {
         row,
         start_col,
         end_col,
-    })?;
+    };
+    let is_whole = covers(area, range, name)?;
+    if !is_whole {
+        return Ok(Ok(()));
+    }
+    let mut ranges = Vec::from_slice(alloc, area.atomic_ranges())?;
+    ranges.push(range)?;
     area.try_set_atomic_ranges(ranges)
+}
+
+// Returns whether a range covers a name.
+fn covers(area: &TextArea<'_>, range: AtomicRange, name: &str) -> Result<bool, AllocError>
+    ensures { IfOk result (λ covers. covers ≡ true →
+        covered_characters (lines area.now.document.text) range ≡ chars name.now) }
+{
+    let Some(line) = area.lines().get(range.row) else {
+        return Ok(false);
+    };
+    let count = range.end_col.saturating_sub(range.start_col);
+    let covered = section(area.allocator(), line.as_str(), range.start_col, count)?;
+    Ok(covered.as_str() == name)
+}
+
+// Returns this number of a line's characters from a column on.
+fn section(alloc: Global, line: &str, column: usize, count: usize) -> Result<String, AllocError>
+    ensures { IfOk result (λ section. string_bytes section
+        ≡ encode_utf8_all (take count (drop column (chars line.now)))) }
+{
+    line.chars().skip(column).take(count).collect(alloc)
 }
 
 /// Gives an input to a text area. All mentions stay whole.
