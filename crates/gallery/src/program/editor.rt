@@ -5,8 +5,7 @@
 //! - `input` has the keys of an editor: moves by words and paragraphs, selecting with Shift, undo,
 //!   cut and paste.
 //! - `input` returns whether the text changed, so the mark of a changed text needs no comparison.
-//! - By `set_cursor_unit` the cursor goes by whole characters: a letter with its accents is one step,
-//!   and is deleted as one.
+//! - By `set_cursor_unit` a letter with its accents is one step, and deleted as one.
 //! - A wide character has two cells, and the cell after it is empty.
 //! - The status is the title of a block without borders; `set_style` gives the whole row its
 //!   colours.

@@ -32,9 +32,8 @@ fn takes_whole_names(area: &TextArea<'_>) -> bool
     !area.read_only() && area.max_chars().is_none()
 }
 
-/// Inserts a name at the cursor as a mention, unless it could be cut. The name is plain text if an
-/// accent after it joins its last letter and the cursor goes by clusters, since the cursor is then
-/// after the accent. All mentions stay whole.
+/// Inserts a name at the cursor as a mention, unless it could be cut, or as plain text if an accent
+/// after it joins it. All mentions stay whole.
 pub fn mention(
     area: &mut TextArea<'_>,
     alloc: Global,
@@ -49,14 +48,8 @@ pub fn mention(
         return Ok(Ok(()));
     }
     area.insert_str(name)?;
-    let (row, end_col) = area.cursor();
     // A name has a byte for each character.
-    let start_col = end_col.saturating_sub(name.len());
-    let range = AtomicRange {
-        row,
-        start_col,
-        end_col,
-    };
+    let range = before_cursor(area, name.len());
     let is_whole = covers(area, range, name)?;
     if !is_whole {
         return Ok(Ok(()));
@@ -64,6 +57,16 @@ pub fn mention(
     let mut ranges = Vec::from_slice(alloc, area.atomic_ranges())?;
     ranges.push(range)?;
     area.try_set_atomic_ranges(ranges)
+}
+
+// Returns the range of this number of characters before the cursor.
+fn before_cursor(area: &TextArea<'_>, count: usize) -> AtomicRange {
+    let (row, end_col) = area.cursor();
+    AtomicRange {
+        row,
+        start_col: end_col.saturating_sub(count),
+        end_col,
+    }
 }
 
 // Returns whether a range covers a name.

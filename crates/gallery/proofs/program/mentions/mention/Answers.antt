@@ -37,8 +37,7 @@ pub returns : goal.returns
 returns c whole =
     let mid = c.insert_str.new.self in
     let mid_whole = whole_over c.args.area.now mid (covers_after c) whole in
-    let place = c.cursor-row.result in
-    let range : AtomicRange = record { row = place.0; start_col = c.saturating_sub-start_col.result; end_col = place.1 } in
+    let range = c.before_cursor-range.result in
     let named = subst (λ (characters : List ℕ). Contains names characters) (sym (c.in_ok-is_whole.ensures c.if-not-is_whole.false ∙ name_characters c.args.name.now c.requires)) c.requires in
     let items : c.push.new.self.items ≡ mid.document.ranges ++ range ∷ [] =
     c.in_ok-push.ensures.items ∙ ap (λ (ranges : List AtomicRange). ranges ++ range ∷ []) (c.in_ok-ranges.ensures.items ∙ c.atomic_ranges.ensures.value) in
