@@ -15,7 +15,7 @@ use Rattle.textarea_search.specs.PlainTexts.{text_pattern}
 use Rattle.textarea_search.specs.declared.search.direction.Direction.TheVariants as toward
 use Rattle.textarea_text.specs.Between.{clip}
 use Rattle.textarea_text.specs.Fragment.{fragment_symbols, pasted_symbols}
-use Rattle.textarea_text.specs.Place.{Place, place_of}
+use Rattle.textarea_text.specs.Place.{place_of}
 use Rattle.textarea_text.specs.Splice.{Splice}
 use Rattle.textarea_text.specs.Text.{characters_of, lines, lines_of, text_of}
 use Rattle.textarea_text.proofs.Befores.{text_place}
@@ -47,12 +47,11 @@ use Rattle.tui_textarea.specs.State.{State}
 use Rattle.tui_textarea.specs.CallUnits.{bias_of_call, settled_after, settles}
 use Rattle.tui_textarea.specs.Units.{settled, whole_stretch}
 use Rattle.tui_textarea.proofs.Cases.{by_both, by_test}
-use Rattle.tui_textarea.proofs.Settling.{layout_and_ranges, settled_layout, sound_settled}
+use Rattle.tui_textarea.proofs.Settling.{begun_unchanged, ended_unchanged, layout_and_ranges, settled_layout, sound_settled}
 use Rattle.tui_textarea.proofs.FoundPlaces.{match_is_place}
 use Rattle.tui_textarea.proofs.Replacing.{all_by, lines_down_by, lines_shifted_by, lines_up_by, match_by, range_by, search_unchanged}
 use Rattle.tui_textarea.proofs.SoundStates.{sound_at, sound_cursor, sound_from, sound_goes, sound_ranges, sound_search, sound_settings, sound_unanchored}
 use Rattle.textarea_document.proofs.UndoGroups.{sound_redo, sound_undo}
-use Rattle.tui_textarea.proofs.Settling.{begun_unchanged, ended_unchanged, layout_and_ranges}
 use Rattle.tui_textarea.proofs.Stepping.{Reckoning, ahead_by, break_by, char_by, cleared_by, copied_by, cursor_range_by, cut_by, edited, kept, moved}
 use Rattle.tui_textarea.proofs.Stepping.{line_end_by, line_head_by, moves_unchanged, newline_by, selected_by, single_by, str_by, symbol_after_by, symbol_before_by, tab_by, unselected_by}
 use Rattle.tui_textarea.proofs.Stepping.{word_after_by, word_before_by}

@@ -5,6 +5,7 @@ use Rattle.std.proofs.lemmas.List.Elements.{Contains-append_cases, Contains-appe
 use Rattle.textarea_calls.specs.declared.action.Action.{Action}
 use Rattle.textarea_calls.specs.declared.call.Call.{Call}
 use Rattle.textarea_calls.specs.declared.call.Call.TheVariants as call
+use Rattle.textarea_data.specs.declared.range.AtomicCursorBias.TheVariants.{Forward}
 use Rattle.textarea_data.specs.declared.range.AtomicRange.{AtomicRange}
 use Rattle.textarea_data.specs.declared.range.RejectedAtomicRange.{RejectedAtomicRange}
 use Rattle.textarea_text.specs.Splice.{Fits, Splice}
@@ -13,16 +14,19 @@ use Rattle.textarea_document.specs.DocumentState.{DocumentState}
 use Rattle.textarea_document.specs.Outcomes.{after_edit, after_redo, after_undo}
 use Rattle.textarea_document.specs.PastRanges.{texts_before}
 use Rattle.textarea_document.specs.Sound.{IsSound}
+use Rattle.textarea_document.specs.Splices.{selected_splices}
 use Rattle.tui_textarea.specs.CallResults.{CallResult, Done}
 use Rattle.tui_textarea.specs.Calls.{ranges_result, rejected_ranges, with_ranges_if}
 use Rattle.tui_textarea.specs.ActionTexts.{IsLeftByAction}
 use Rattle.tui_textarea.specs.Input.{asked_by, asked_without_shortcuts, call_of_action}
 use Rattle.tui_textarea.specs.Outcomes.{IsAfterCall, IsAfterOutOfMemory, IsResultOf}
 use Rattle.tui_textarea.specs.RangesOverCalls.{SetsRanges}
+use Rattle.tui_textarea.specs.Selection.{unselected}
 use Rattle.tui_textarea.specs.State.{State}
+use Rattle.tui_textarea.specs.Units.{settled}
 use Rattle.tui_textarea.proofs.Acting.{Fact, Past, acts_by, any_left, by_any_act, calls_by, calls_left}
 use Rattle.tui_textarea.proofs.Frames.{drawn_document}
-use Rattle.tui_textarea.proofs.Settling.{LayoutAndRanges, Visible, layout_and_ranges, visible}
+use Rattle.tui_textarea.proofs.Settling.{LayoutAndRanges, Visible, layout_and_ranges, settled_layout, visible}
 use Rattle.tui_textarea.proofs.Stepping.{Reckoning, selected_by}
 
 -- ---- the laws of documents
@@ -78,7 +82,7 @@ module _ (laws : TheLaws) where
   }
 
   past : Past Covers
-  past = record { undos = laws.undone; redos = laws.redone; stays = λ document characters stored. stored }
+  past = record { undos = laws.undone; redos = laws.redone; stays = λ document characters stored. stored; same = reckoned.same }
 
   pub call_covers : (old new : State) (made : Call) (returned : CallResult) → IsSound old.document → ¬ SetsRanges made returned → IsResultOf old made returned → IsAfterCall old made returned new →
       CoversNoMore old.document new.document
@@ -108,5 +112,7 @@ module _ (laws : TheLaws) where
   action_covers old new asked h (inr ran_out) =
       ⊎_elim
       (λ same. unchanged old new old same refl)
-      (λ gone. subst (λ (s : State). CoversNoMore old.document s.document) (sym gone) (selected_by Covers reckoned old.document old.time h).0)
+      (λ gone. subst (λ (s : State). CoversNoMore old.document s.document) (sym gone)
+      (reckoned.same old.document (unselected old).document (settled Forward (unselected old)).document (selected_splices old.document) (settled_layout Forward (unselected old))
+      (selected_by Covers reckoned old.document old.time h).0))
       (any_left old new (call_of_action asked) ran_out)

@@ -13,6 +13,7 @@ use Rattle.textarea_document.specs.Edits.{between_removed, nothing_inserted, spl
 use Rattle.textarea_document.specs.Selection.{is_selected, selected_removed, selection_end, selection_start}
 use Rattle.textarea_document.specs.Splices.{insertion_splices, selected_splices}
 use Rattle.textarea_document.specs.Outcomes.{unanchored}
+use Rattle.textarea_document.specs.PastRanges.{PastRanges, ranges_to_remember, with_newest}
 use Rattle.tui_textarea.specs.Fitting.{fitting_beside, fitting_count, fitting_selection}
 use Rattle.tui_textarea.specs.Edits.{breaks_line, fitting_spaces, spaces_to_stop, str_inserted, symbols_or_none_inserted, tab_inserted, tab_or_spaces_inserted}
 use Rattle.tui_textarea.specs.Grouping.{call_begun, call_ended, closed_if, opens_group, with_group}
@@ -30,28 +31,36 @@ use Rattle.tui_textarea.specs.State.{State, with_document}
 abbrev pub with_log : DocumentState → Log → DocumentState
 with_log document log = record document { log = log }
 
+-- the same with other remembered ranges, as far as edits of this log have them
+abbrev with_history : DocumentState → Log → PastRanges → DocumentState
+with_history document log past = record document { log = log; past_ranges = past }
+
+-- a document that has all but these of the other
+abbrev HasAllBeside : DocumentState → DocumentState → Type 0
+HasAllBeside document other = document ≡ with_history other document.log document.past_ranges
+
 removed_beside : (selected : Bool) (document : DocumentState) (log : Log) (now : ℕ) →
-    cond selected (between_removed (with_log document log) (selection_start document) (selection_end document) now) (with_log document log) ≡
-    with_log (cond selected (between_removed document (selection_start document) (selection_end document) now) document)
-    (cond selected (between_removed (with_log document log) (selection_start document) (selection_end document) now) (with_log document log)).log
+    HasAllBeside (cond selected (between_removed (with_log document log) (selection_start document) (selection_end document) now) (with_log document log))
+    (cond selected (between_removed document (selection_start document) (selection_end document) now) document)
 unfolding between_removed
 removed_beside true document log now = refl
 removed_beside false document log now = refl
 
 -- the log changes nothing else of it
-pub unselected_beside : (state : State) → (unselected (call_begun state)).document ≡ with_log (unselected state).document (unselected (call_begun state)).document.log
+pub unselected_beside : (state : State) → HasAllBeside (unselected (call_begun state)).document (unselected state).document
 unselected_beside state = removed_beside (is_selected state.document) state.document (call_begun state).document.log state.time
 
 -- ---- the splices are those without a group
 
-insertion_beside : (document : DocumentState) (log : Log) (symbols : List Symbol) → insertion_splices (with_log document log) symbols ≡ insertion_splices document symbols
-insertion_beside document log [] = refl
-insertion_beside document log (symbol ∷ symbols) = refl
+insertion_beside : (document : DocumentState) (log : Log) (past : PastRanges) (symbols : List Symbol) → insertion_splices (with_history document log past) symbols ≡ insertion_splices document symbols
+insertion_beside document log past [] = refl
+insertion_beside document log past (symbol ∷ symbols) = refl
 
 pub str_beside : (state : State) (symbols : List Symbol) → str_splices (call_begun state) symbols ≡ str_splices state symbols
 str_beside state symbols =
+    let begun = (unselected (call_begun state)).document in
     ap (λ (d : DocumentState). selected_splices state.document ++ insertion_splices d symbols) (unselected_beside state)
-    ∙ ap (λ (s : List Splice). selected_splices state.document ++ s) (insertion_beside (unselected state).document (unselected (call_begun state)).document.log symbols)
+    ∙ ap (λ (s : List Splice). selected_splices state.document ++ s) (insertion_beside (unselected state).document begun.log begun.past_ranges symbols)
 
 -- what fits in place of the selected text
 pub fitting_beside_group : (state : State) (symbols : List Symbol) → fitting_selection (call_begun state) symbols ≡ fitting_selection state symbols
@@ -129,8 +138,13 @@ unselected_if true old closed = by (is_selected old.document)
         ap (λ (g : Group). record (recorded (record document.log { group = opened g }) splice false old.time) { group = Closed }) (closed refl)
         ∙ closed_again document.log splice old.time (closed refl)
 
+    -- the ranges that are remembered after the removal, by the log after it
+    past : Log → PastRanges
+    past log =
+        with_newest document.past_ranges (ranges_to_remember document.past_ranges document.ranges document.log splice false old.time) (length document.log.undone) (length log.done)
+
     by : (selected : Bool) → with_group (with_document old (cond selected (gone begun) begun)) Closed ≡ with_document old (cond selected (gone document) document)
-    by true = ap (λ (l : Log). with_document old (with_log (gone document) l)) empty
+    by true = ap (λ (l : Log). with_document old (with_history (gone document) l (past l))) empty
     by false = ap (with_group old) (sym (closed refl))
 
 -- so after the removal of the selected text in a group of its own nothing of the group is left
@@ -151,22 +165,22 @@ left_closed old new h =
     (λ gone. inr (ap (call_ended old) gone ∙ closed_settled (opens_group old) Forward (unselected (call_begun old)) ∙ ap (settled Forward) (unselected_closed old)))
     h
 
--- and the same if after it a step is made that has nothing to do with the log
-closed_beside : (step : DocumentState → DocumentState) → ((document : DocumentState) (log : Log) → step (with_log document log) ≡ with_log (step document) log) →
+-- and the same if after it a step is made that has nothing to do with the log and remembered ranges
+closed_beside : (step : DocumentState → DocumentState) → ((document : DocumentState) (log : Log) (past : PastRanges) → step (with_history document log past) ≡ with_history (step document) log past) →
     (old : State) → call_ended old (with_document old (step (unselected (call_begun old)).document)) ≡ with_document old (step (unselected old).document)
 closed_beside step beside old =
     let left = (unselected old).document in
-    let log = (unselected (call_begun old)).document.log in
+    let begun = (unselected (call_begun old)).document in
     ap (λ (d : DocumentState). call_ended old (with_document old (step d))) (unselected_beside old)
-    ∙ ap (λ (d : DocumentState). call_ended old (with_document old d)) (beside left log)
-    ∙ ap (λ (l : Log). with_document old (with_log (step left) l)) (ap (λ (s : State). s.document.log) (unselected_closed old))
-    ∙ ap (with_document old) (sym (beside left left.log))
+    ∙ ap (λ (d : DocumentState). call_ended old (with_document old d)) (beside left begun.log begun.past_ranges)
+    ∙ ap (λ (s : State). with_document old (with_history (step left) s.document.log s.document.past_ranges)) (unselected_closed old)
+    ∙ ap (with_document old) (sym (beside left left.log left.past_ranges))
 
 pub nothing_closed : (old : State) → str_inserted old [] ≡ symbols_or_none_inserted (unselected old) []
-nothing_closed old = closed_beside nothing_inserted (λ document log. refl) old
+nothing_closed old = closed_beside nothing_inserted (λ document log past. refl) old
 
 pub cancelled_closed : (old : State) → call_ended old (selection_cancelled (unselected (call_begun old))) ≡ selection_cancelled (unselected old)
-cancelled_closed old = closed_beside unanchored (λ document log. refl) old
+cancelled_closed old = closed_beside unanchored (λ document log past. refl) old
 
 -- so nothing is inserted, and no tab
 pub nothing_after : {view old : State} → view ≡ old → (removed new : DocumentState) → removed ≡ selected_removed view.document view.time → new ≡ nothing_inserted removed →

@@ -62,5 +62,11 @@ ranges_stay_in_drawing old new area h =
 follows_past : (old new : DocumentState) (splices : List Splice) → RangesFollowSplices old splices new → RangesFollowPast old splices new
 follows_past old new splices h = record { text = h.text; ranges = λ none. h.ranges }
 
+past_as : (old new other : DocumentState) (splices : List Splice) → layout_and_ranges other ≡ layout_and_ranges new → RangesFollowPast old splices new → RangesFollowPast old splices other
+past_as old new other splices same h = record {
+  text = subst (λ t. IsTextBefore old.text t splices) (sym (ap (λ (s : LayoutAndRanges). s.0.text) same)) h.text;
+  ranges = λ none. ap (λ (s : LayoutAndRanges). s.1) same ∙ h.ranges none;
+}
+
 pub past_follows : UndosGo → RedosGo → Past RangesFollowPast
-past_follows undos redos = record { undos = undos; redos = redos; stays = λ document. follows_past document document [] (stays document document refl refl).0 }
+past_follows undos redos = record { undos = undos; redos = redos; stays = λ document. follows_past document document [] (stays document document refl refl).0; same = past_as }

@@ -29,9 +29,10 @@ use Rattle.tui_textarea.specs.Units.{whole_stretch}
 use Rattle.tui_textarea.specs.Calls.{call_splices, state_after, unguarded_after, unguarded_splices}
 use Rattle.tui_textarea.specs.Guards.{admitted, admitted_whole, admitted_for, barred_after, is_barred}
 use Rattle.tui_textarea.specs.GroupLaw.{IsReplacement, IsReplacementUndoneAtOnce, MakesFewEdits}
-use Rattle.tui_textarea.specs.Replacing.{end_of_match, is_empty_match, match_at_cursor, match_replaced_by, match_splices_by, replaceable, start_of_match, with_range_replaced}
+use Rattle.tui_textarea.specs.Replacing.{match_at_cursor, match_replaced_by, match_splices_by, replaceable, with_range_replaced}
 use Rattle.tui_textarea.specs.Search.{after_search, next_match}
 use Rattle.tui_textarea.specs.State.{State}
+use Rattle.tui_textarea.specs.WholeMatches.{end_of_match, is_empty_match, start_of_match}
 use Rattle.tui_textarea.proofs.Cases.{by_both, by_test}
 use Rattle.tui_textarea.proofs.GroupsOfCalls.{EndsWith, first_recorded, group_taken_back, more_recorded}
 use Rattle.tui_textarea.proofs.Replacing.{stretch_is}

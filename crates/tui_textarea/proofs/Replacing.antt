@@ -1,5 +1,5 @@
 -- Replacements lead by their splices to sound documents.
-use Rattle.std.proofs.Common.{◌≡◌, ◌<◌, ℕ, ◌+◌, ◌-◌, ◌==◌, Bool, true, false, List, [], ◌∷◌, ◌++◌, length, Option, None, Some, IfSome, option_map, ap, arith, refl, sym, not}
+use Rattle.std.proofs.Common.{◌≡◌, ◌<◌, ℕ, ◌+◌, ◌-◌, ◌==◌, false, List, [], ◌∷◌, ◌++◌, length, Option, None, Some, option_map, ap, arith, refl, sym, not}
 use Rattle.textarea_data.specs.declared.cursor.CursorUnit.{CursorUnit}
 use Rattle.textarea_text.specs.Between.{clip}
 use Rattle.textarea_text.specs.Place.{IsPlace, Place, is_before, line_end, line_of}
@@ -22,9 +22,10 @@ use Rattle.textarea_document.proofs.MovedLines.{ends_above, ends_below}
 use Rattle.textarea_document.proofs.Orders.{index_before}
 use Rattle.textarea_document.proofs.Replacing.{ends_are_places}
 use Rattle.textarea_document.proofs.Sounds.{sound_begun, sound_ended, start_is_place}
-use Rattle.tui_textarea.specs.Replacing.{end_of_match, is_empty_match, match_replaced_by, match_splices_by, start_of_match, with_range_replaced}
+use Rattle.tui_textarea.specs.Replacing.{match_replaced_by, match_splices_by, with_range_replaced}
 use Rattle.tui_textarea.specs.Search.{after_search, next_match}
 use Rattle.tui_textarea.specs.State.{State, with_document}
+use Rattle.tui_textarea.specs.WholeMatches.{end_of_match, is_empty_match, start_of_match}
 use Rattle.tui_textarea.proofs.Cases.{by_both, by_test}
 use Rattle.tui_textarea.proofs.FoundPlaces.{match_is_place}
 use Rattle.tui_textarea.proofs.SoundStates.{clipped, sound_at, sound_from, sound_search}

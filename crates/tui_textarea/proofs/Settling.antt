@@ -8,7 +8,7 @@ use Rattle.textarea_data.specs.declared.range.AtomicCursorBias.TheVariants.{Back
 use Rattle.textarea_data.specs.declared.range.AtomicRange.{AtomicRange}
 use Rattle.textarea_lines.specs.TextLayout.{TextAndLayout}
 use Rattle.textarea_text.specs.Place.{IsPlace, Place}
-use Rattle.textarea_text.specs.Text.{Symbol, lines}
+use Rattle.textarea_text.specs.Text.{lines}
 use Rattle.textarea_history.specs.Groups.{is_open}
 use Rattle.textarea_history.specs.Log.{group_begun, group_ended}
 use Rattle.textarea_history.specs.declared.history.groups.Group.TheVariants.{Closed, Empty}
@@ -18,7 +18,7 @@ use Rattle.textarea_document.specs.DocumentRows.{text_and_layout}
 use Rattle.textarea_document.specs.DocumentState.{DocumentState}
 use Rattle.textarea_document.specs.Sound.{IsSound}
 use Rattle.textarea_document.proofs.Sounds.{sound_otherwise}
-use Rattle.tui_textarea.specs.Grouping.{call_ended, closed_if}
+use Rattle.tui_textarea.specs.Grouping.{closed_if}
 use Rattle.tui_textarea.specs.State.{State, with_document}
 use Rattle.tui_textarea.specs.Units.{AreAtStops, IsAtStop, IsSettled, IsSettledBy, document_settled, settled_for, stop_of}
 unfoldable use Rattle.tui_textarea.specs.Units.{settled}
@@ -93,11 +93,12 @@ settled_text bias state = by_unit (λ s. s.document.text ≡ state.document.text
 -- it makes no difference whether the group of a call ends before
 pub closed_settled : (opens : Bool) (bias : AtomicCursorBias) (state : State) → closed_if opens (settled bias state) ≡ settled bias (closed_if opens state)
 unfolding settled
-closed_settled opens bias state = by state.settings.cursor_unit
+closed_settled opens bias state = by state.settings.cursor_unit bias
   where
-    by : (found : CursorUnit) → closed_if opens (settled_for found bias state) ≡ settled_for found bias (closed_if opens state)
-    by unit.Character = refl
-    by unit.Cluster = refl
+    by : (found : CursorUnit) (toward : AtomicCursorBias) → closed_if opens (settled_for found toward state) ≡ settled_for found toward (closed_if opens state)
+    by unit.Character toward = refl
+    by unit.Cluster Backward = refl
+    by unit.Cluster Forward = refl
 
 -- ---- the positions
 

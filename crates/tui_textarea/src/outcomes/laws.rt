@@ -71,9 +71,9 @@ pub fn count_never_falls()
 
 /// How the atomic ranges move over each call, in every state that a text area has: with the text,
 /// over the call's splices, which lead from the old text to the new one, but over those of an undo or
-/// a redo only if no ranges are remembered; only these may split a range. New lines and the call that clears the ranges leave none, and accepted
-/// ranges replace the old ones. A call that runs out of memory has made no splice, or only the one
-/// that removes the selected text.
+/// a redo only if no ranges are remembered; only these may split a range. New lines and the call that
+/// clears the ranges leave none, and accepted ranges replace the old ones. A call that runs out of
+/// memory has made no splice, or only the one that removes the selected text.
 pub fn ranges_follow_each_call()
     ensures made { (old new : State) (call : Call) (returned : CallResult) → IsSound old.document →
         IsResultOf old call returned → IsAfterCall old call returned new →

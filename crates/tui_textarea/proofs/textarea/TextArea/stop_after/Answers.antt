@@ -41,6 +41,6 @@ returns-then-column-end-clause-value c =
     let cursor = c.cursor-row.ensures.value ∙ ap (λ (s : State). s.document.cursor) c.self.view_is in
     let rows = c.lines.ensures.lines ∙ ap (λ (s : State). lines s.document.text) c.self.view_is in
     let at_end : document.cursor.1 ≡ length (line_of (lines document.text) document.cursor.0) =
-    ap (λ (p : Place). p.1) (sym cursor) ∙ c.if-column-end.true ∙ ap (λ (p : Place). p.1) c.line_end.ensures.value
+    ap (λ (p : Place). p.1) (sym cursor) ∙ c.if-column-end.true ∙ ap (λ (p : Place). p.1) c.line_end-end.ensures.value
     ∙ ap (λ r. length (line_of r c.cursor-row.result.0)) rows ∙ ap (λ (p : Place). length (line_of (lines document.text) p.0)) cursor in
     same_elsewhere (past_cursor document) (stop_of Forward document (past_cursor document)) (past_cursor document) (sym (past_end document at_end)) refl
