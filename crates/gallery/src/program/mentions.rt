@@ -7,6 +7,7 @@ ghost use Rattle.textarea_text.specs.Text.{lines};
 
 use crate::program::byte_of;
 use std::alloc::{AllocError, Global};
+use textarea_text::places::line_of;
 use tui_textarea::input_laws::ranges_cover_as_before;
 use tui_textarea::laws::is_sound;
 use tui_textarea::outcomes::laws::ranges_cover_no_more;
@@ -74,12 +75,14 @@ fn covers(area: &TextArea<'_>, range: AtomicRange, name: &str) -> Result<bool, A
     ensures { IfOk result (λ covers. covers ≡ true →
         covered_characters (lines area.now.document.text) range ≡ chars name.now) }
 {
-    let Some(line) = area.lines().get(range.row) else {
+    let lines = area.lines();
+    if range.row >= lines.len() {
         return Ok(false);
-    };
+    }
+    let line = line_of(lines, range.row);
     let count = range.end_col.saturating_sub(range.start_col);
-    let covered = section(area.allocator(), line.as_str(), range.start_col, count)?;
-    Ok(covered.as_str() == name)
+    let found = section(area.allocator(), line, range.start_col, count)?;
+    Ok(found.as_str() == name)
 }
 
 // Returns this number of a line's characters from a column on.
