@@ -8,7 +8,7 @@ use tui_textarea::ratatui::text::{Line, Span, Text};
 use tui_textarea::ratatui::widgets::{Block, Borders, Padding, Widget};
 use tui_textarea::{
     AtomicCursorBias, AtomicDeleteDirection, AtomicRange, AtomicRangeRejectReason, CursorMove,
-    CursorRenderMode, Input, Key, Scrolling, SearchError, TextArea, WrapMode,
+    CursorRenderMode, CursorUnit, Input, Key, Scrolling, SearchError, TextArea, WrapMode,
 };
 
 fn row_of(buffer: &Buffer, y: u16) -> String {
@@ -229,6 +229,21 @@ fn max_chars() {
 }
 
 #[test]
+fn cursor_unit() {
+    let mut area = TextArea::from(["e\u{301}x"]);
+    assert_eq!(area.cursor_unit(), CursorUnit::Character);
+    area.move_cursor(CursorMove::Forward);
+    assert_eq!(area.cursor(), (0, 1));
+    area.set_cursor_unit(CursorUnit::Cluster);
+    assert_eq!(area.cursor_unit(), CursorUnit::Cluster);
+    assert_eq!(area.cursor(), (0, 2));
+    area.set_search_pattern("e").unwrap();
+    assert_eq!((area.match_count(), area.replace_all("a")), (0, 0));
+    assert!(area.delete_char());
+    assert_eq!(area.lines(), ["x"]);
+}
+
+#[test]
 fn undo_groups() {
     let mut area = TextArea::from(["one"]);
     assert!(!area.undo_grouping());
@@ -310,7 +325,10 @@ fn ranges() {
     area.set_undo_ranges(true);
     area.set_atomic_ranges([range(0, 0, 4)]);
     assert!(area.undo_ranges());
-    assert_eq!(area.delete_atomic_range_at_cursor(back), Some(range(0, 0, 4)));
+    assert_eq!(
+        area.delete_atomic_range_at_cursor(back),
+        Some(range(0, 0, 4))
+    );
     assert_eq!(area.atomic_ranges(), []);
     assert!(area.undo());
     assert_eq!(area.atomic_ranges(), [range(0, 0, 4)]);

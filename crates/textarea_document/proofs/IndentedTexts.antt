@@ -10,12 +10,13 @@ use Rattle.textarea_text.proofs.TextPlaces.{joined-lines}
 use Rattle.textarea_text.specs.Text.{following}
 use Rattle.textarea_clusters.specs.Edges.{is_cluster_edge}
 use Rattle.textarea_clusters.specs.Stops.{column_back, is_column_stop}
+use Rattle.textarea_data.specs.declared.cursor.CursorUnit.{CursorUnit}
 use Rattle.textarea_data.specs.declared.cursor.CursorUnit.TheVariants as units
 use Rattle.textarea_ranges.specs.Lookup.{is_inside, is_range_at_place, range_around}
 use Rattle.textarea_ranges.proofs.LookupLemmas.{is_inside-IsInside}
-use Rattle.textarea_data.specs.declared.cursor.CursorUnit.{CursorUnit}
 use Rattle.textarea_document.specs.Prelude.{AtomicRange, Break, DocumentState, Forward, IsInside, IsSound, Place, Symbol, characters, end, joined, lines}
-use Rattle.textarea_document.specs.Indenting.{begins_with_tab, free_spaces, indent_columns, is_free, is_free_space, is_selected_row, line_stretches, lines_shifted, outdent_columns, replaced_columns, shift_columns, shifted_over, unless_zero, whole_columns, stretch_from, stretches_from, with_start, with_starts}
+use Rattle.textarea_document.specs.Indenting.{begins_with_tab, free_spaces, indent_columns, is_free, is_free_space, is_selected_row, line_stretches, lines_shifted, outdent_columns, replaced_columns, shift_columns}
+use Rattle.textarea_document.specs.Indenting.{shifted_over, unless_zero, whole_columns, stretch_from, stretches_from, with_start, with_starts}
 use Rattle.textarea_document.specs.ReplacedText.{AreReplaceable, AreStretches, IsOutside, with_replaced}
 use Rattle.textarea_document.specs.Replacing.{all_replaced}
 use Rattle.textarea_document.proofs.ReplacedTexts.{replaced_text}

@@ -1,7 +1,7 @@
 -- Each step preserves the invariant of documents.
 use Rattle.std.proofs.Common.{◌≡◌, ℕ, zero, suc, Bool, true, false, cond, List, [], length, Option, Some, None, Result, Ok, Err, sym, ap, refl, ◌∙◌, subst, arith}
 use Rattle.textarea_document.specs.Prelude.{ArePastRanges, IsValidList, PastRanges, history_forgotten, no_past_ranges, past_ranges_set, undo_ranges_set, past_ranges_after, ranges_before_newest}
-use Rattle.textarea_document.specs.Prelude.{ranges_before_next, ranges_or, texts_before, LoggedChanges, with_splice, group_begun, group_ended, is_open}
+use Rattle.textarea_document.specs.Prelude.{ranges_before_next, ranges_or, texts_before, LoggedChanges, no_changes, changes_taken, with_splice, group_begun, group_ended, is_open}
 use Rattle.textarea_history.specs.declared.history.groups.Group.{Group}
 use Rattle.textarea_history.specs.declared.history.groups.Group.TheVariants.{Closed, Empty}
 use Rattle.textarea_document.specs.Prelude.{IfSome, OnErr, OnOk, Symbol, lines, Place, IsPlace, Splice, Fits, applied, inverse, place_after, Log, empty_log, redone_log, newest}
@@ -70,6 +70,13 @@ pub changed_is : (text_layout new : TextAndLayout) (cursor ahead : Place) (ancho
     document_of new ahead None stored after made past ≡ after_change (document_of text_layout cursor anchor ranges log changes past) splice left
 changed_is text_layout new cursor ahead anchor ranges stored log after left changes made past change splice is layout_is cursor_is stored_is log_is made_is =
     rw (layout_is, cursor_is, stored_is, log_is, made_is, is) refl
+
+-- copied parts without changes make the document without changes
+pub copy_is : (text_layout new : TextAndLayout) (cursor : Place) (anchor : Option Place) (ranges stored : List AtomicRange) (log left : Log) (changes none : LoggedChanges) (past kept : PastRanges) →
+    new ≡ text_layout → stored ≡ ranges → left ≡ log → none ≡ no_changes changes.unit → kept ≡ past →
+    document_of new cursor anchor stored left none kept ≡ changes_taken (document_of text_layout cursor anchor ranges log changes past)
+copy_is text_layout new cursor anchor ranges stored log left changes none past kept layout_is stored_is log_is none_is kept_is =
+    rw (layout_is, stored_is, log_is, none_is, kept_is) refl
 
 -- the layout, the changes, a run of typing and an open group have no influence on the invariant, and the cursor and the anchor may be any positions
 pub sound_otherwise : (document : DocumentState) (layout : Layout) (cursor : Place) (anchor : Option Place) (run_open : Bool) (group : Group) (changes : LoggedChanges) → IsSound document →
@@ -214,7 +221,18 @@ inside_times step one (suc count) document h = one (times count step document) (
 
 -- a document without a history
 pub sound_fresh : (text : List Symbol) (settings : LayoutSettings) (count : ℕ) (cursor : Place) (maximum : ℕ) → IsPlace text cursor → IsSound (fresh_document text settings count cursor maximum)
-sound_fresh text settings count cursor maximum h = record { cursor = h; anchor = tt; ranges = valid_none (lines text); in_order = refl; undo = tt; redo = tt; bounded = omega arith; marks = refl; whole = refl; past = none_past text [] [] false }
+sound_fresh text settings count cursor maximum h = record {
+  cursor = h;
+  anchor = tt;
+  ranges = valid_none (lines text);
+  in_order = refl;
+  undo = tt;
+  redo = tt;
+  bounded = omega arith;
+  marks = refl;
+  whole = refl;
+  past = none_past text [] [] false;
+}
 
 pub fresh_is : (text : List Symbol) (settings : LayoutSettings) (count : ℕ) (cursor : Place) (maximum : ℕ) (text_layout : TextAndLayout) (stored : List AtomicRange) (log : Log)
     (changes : LoggedChanges) (past : PastRanges) →
@@ -244,7 +262,8 @@ text_viewed : {T E : Type 0} (r : Result T E) (text_layout new : TextAndLayout) 
 text_viewed (Ok x) text_layout new settings ok err = ap (λ (l : TextAndLayout). l.text) ok ∙ text_stays text_layout settings
 text_viewed (Err e) text_layout new settings ok err = ap (λ (l : TextAndLayout). l.text) err
 
-pub sound_viewed : {T E : Type 0} (r : Result T E) (text_layout new : TextAndLayout) (settings : LayoutSettings) (cursor : Place) (anchor : Option Place) (ranges : List AtomicRange) (log : Log) (changes : LoggedChanges) (past : PastRanges) →
+pub sound_viewed : {T E : Type 0} (r : Result T E) (text_layout new : TextAndLayout) (settings : LayoutSettings) (cursor : Place) (anchor : Option Place) (ranges : List AtomicRange) (log : Log)
+    (changes : LoggedChanges) (past : PastRanges) →
     OnOk r (new ≡ with_settings text_layout settings) → OnErr r (new ≡ text_layout) → IsSound (document_of text_layout cursor anchor ranges log changes past) → IsSound (document_of new cursor anchor ranges log changes past)
 sound_viewed r text_layout new settings cursor anchor ranges log changes past ok err h =
     subst (λ (t : List Symbol). IsSound (document_of (record { text = t; layout = new.layout }) cursor anchor ranges log changes past)) (sym (text_viewed r text_layout new settings ok err))

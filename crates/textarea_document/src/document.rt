@@ -74,14 +74,19 @@ impl Clone for Document {
     /// Returns a copy of the document with its history and an empty log of changes, or an error if
     /// memory runs out.
     fn clone(&self) -> Result<Document, AllocError> {
+        let text_layout = self.text_layout.clone()?;
+        let ranges = self.ranges.clone()?;
+        let history = self.history.clone()?;
+        let changes = self.changes.emptied();
+        let range_history = self.range_history.copied()?;
         Ok(Document {
-            text_layout: self.text_layout.clone()?,
+            text_layout,
             cursor: self.cursor,
             anchor: self.anchor,
-            ranges: self.ranges.clone()?,
-            history: self.history.clone()?,
-            changes: self.changes.emptied(),
-            range_history: self.range_history.copied()?,
+            ranges,
+            history,
+            changes,
+            range_history,
         })
     }
 }

@@ -1,5 +1,5 @@
 -- Calls on a draft, one list after another.
-use Rattle.std.proofs.Common.{◌≡◌, ◌+◌, ◌<◌, ◌∙◌, ◌⊎◌, ◌||◌, ℕ, Bool, true, false, List, [], ◌∷◌, ◌++◌, None, Some, OnErr, OnOk, Result, Ok, Err, ap, append-nil, inl, inr, is_err, length, map, refl, subst, sym, take, zero-add, arith, length-append}
+use Rattle.std.proofs.Common.{◌≡◌, ◌+◌, ◌∙◌, ◌⊎◌, ◌||◌, ℕ, Bool, true, false, List, [], ◌∷◌, ◌++◌, None, Some, OnErr, OnOk, Result, Ok, Err, ap, append-nil, inl, inr, is_err, length, refl, subst, sym, take, zero-add, arith, length-append}
 use Rattle.std.proofs.Math.Bool.{or-false}
 use Rattle.std.proofs.Math.Seq.{take-append-add}
 use Rattle.std.specs.List.{list_any}

@@ -1,5 +1,5 @@
 -- The indent that a line break keeps.
-use Rattle.std.proofs.Common.{inl, inr, ◌≡◌, ◌∙◌, ◌<◌, ◌-◌, ◌==◌, ◌||◌, ℕ, zero, suc, Bool, true, false, not, List, [], ◌∷◌, ◌++◌, ap, if◌then◌else◌, refl, sym, take, arith}
+use Rattle.std.proofs.Common.{inl, inr, ◌≡◌, ◌∙◌, ◌<◌, ◌-◌, ◌==◌, ℕ, zero, suc, Bool, true, false, not, List, [], ◌∷◌, ◌++◌, ap, if◌then◌else◌, refl, sym, take, arith}
 use Rattle.std.specs.Prelude.{chars}
 use Rattle.std.proofs.lemmas.Bool.{eqb-true, false≢true, or_cases, or_parts}
 use Rattle.std.proofs.lemmas.Bool.Decides.{nat_tests}

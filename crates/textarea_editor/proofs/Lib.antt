@@ -10,3 +10,4 @@ mod Saved
 mod Searches
 mod Replacing
 mod Indents
+mod Frames

@@ -1,5 +1,5 @@
 -- Texts that are compared with the saved one.
-use Rattle.std.proofs.Common.{◌≡◌, ◌≢◌, ◌⊎◌, ◌↔◌, ◌∙◌, ◌&&◌, Bool, IfSome, IsTrue, true, false, ℕ, List, [], ◌∷◌, None, Some, String, string_bytes, encode_utf8_all, ap, is_some, not, refl, subst, sym}
+use Rattle.std.proofs.Common.{◌≡◌, ◌↔◌, ◌∙◌, ◌&&◌, Bool, IfSome, IsTrue, true, false, ℕ, List, [], ◌∷◌, None, Some, String, string_bytes, encode_utf8_all, ap, is_some, not, refl, subst, sym}
 use Rattle.std.specs.Cmp.Lexicographic.{pointwise}
 use Rattle.std.specs.Prelude.{string_eq}
 use Rattle.std.specs.Str.{chars}

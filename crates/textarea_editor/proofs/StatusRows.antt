@@ -1,6 +1,6 @@
 -- Lemmas on the status row.
-use Rattle.std.proofs.Common.{◌≡◌, ◌<◌, ◌≤◌, ◌+◌, ◌∙◌, ℕ, Bool, inl, inr, true, false, List, Option, None, Some, length, min, refl, sym, ap, subst, arith}
-use Rattle.std.proofs.Math.Nat.{min-eq_left, min-eq_right}
+use Rattle.std.proofs.Common.{◌≡◌, ◌<◌, ◌≤◌, ◌+◌, ◌∙◌, ℕ, Bool, inl, inr, false, List, Option, None, Some, min, refl, sym, ap, subst, arith}
+use Rattle.std.proofs.Math.Nat.{min-eq_right}
 use Rattle.std.proofs.lemmas.Bool.{cases_lt}
 use Rattle.std.proofs.lemmas.Bool.Decides.{nat_tests}
 use Rattle.std.specs.Option.{option_map}

@@ -6,7 +6,7 @@ use Rattle.std.proofs.lemmas.List.Splits.{slice_split_first}
 use Rattle.std.proofs.lemmas.Bool.Decides.{nat_tests}
 use Rattle.textarea_data.specs.declared.range.AtomicRange.{AtomicRange}
 use Rattle.textarea_script_syntax.specs.Arguments.{has_space, is_separator, split_first}
-use Rattle.textarea_script_syntax.specs.Ranges.{range, ranges, ranges_of}
+use Rattle.textarea_script_syntax.specs.Ranges.{range, ranges, ranges_of_words}
 
 abbrev words : List ℕ → List (List ℕ)
 words text = slice_split (λ byte. is_separator byte) text
@@ -43,11 +43,11 @@ words_some text first rest is =
 -- ---- one word, two words, three words, and more
 pub ranges_one : (text : List ℕ) → split_first text ≡ None → ranges text ≡ None
 unfolding ranges
-ranges_one text none = ap ranges_of (words_none text none)
+ranges_one text none = ap ranges_of_words (words_none text none)
 
 pub ranges_two : (text row rest : List ℕ) → split_first text ≡ Some (row, rest) → split_first rest ≡ None → ranges text ≡ None
 unfolding ranges
-ranges_two text row rest one none = ap ranges_of (words_some text row rest one ∙ ap (λ (w : List (List ℕ)). row ∷ w) (words_none rest none))
+ranges_two text row rest one none = ap ranges_of_words (words_some text row rest one ∙ ap (λ (w : List (List ℕ)). row ∷ w) (words_none rest none))
 
 single_range : (one : Option AtomicRange) → option_map (λ (p : AtomicRange × List AtomicRange). p.0 ∷ p.1) (option_zip one (Some [])) ≡ option_map (λ one. one ∷ []) one
 single_range None = refl
@@ -56,7 +56,7 @@ single_range (Some one) = refl
 pub ranges_three : (text row rest start end : List ℕ) → split_first text ≡ Some (row, rest) → split_first rest ≡ Some (start, end) → split_first end ≡ None → ranges text ≡ option_map (λ one. one ∷ []) (range row start end)
 unfolding ranges
 ranges_three text row rest start end one two none =
-    ap ranges_of (words_some text row rest one ∙ ap (λ (w : List (List ℕ)). row ∷ w) (words_some rest start end two ∙ ap (λ (w : List (List ℕ)). start ∷ w) (words_none end none)))
+    ap ranges_of_words (words_some text row rest one ∙ ap (λ (w : List (List ℕ)). row ∷ w) (words_some rest start end two ∙ ap (λ (w : List (List ℕ)). start ∷ w) (words_none end none)))
     ∙ single_range (range row start end)
 
 -- the first range, if it is read, before the others
@@ -73,5 +73,5 @@ pub ranges_more : (text row rest start last end after : List ℕ) → split_firs
     → ranges text ≡ first_and (range row start end) (ranges after)
 unfolding ranges
 ranges_more text row rest start last end after one two three =
-    ap ranges_of (words_some text row rest one ∙ ap (λ (w : List (List ℕ)). row ∷ w) (words_some rest start last two ∙ ap (λ (w : List (List ℕ)). start ∷ w) (words_some last end after three)))
-    ∙ first_zipped (range row start end) (ranges_of (words after))
+    ap ranges_of_words (words_some text row rest one ∙ ap (λ (w : List (List ℕ)). row ∷ w) (words_some rest start last two ∙ ap (λ (w : List (List ℕ)). start ∷ w) (words_some last end after three)))
+    ∙ first_zipped (range row start end) (ranges_of_words (words after))

@@ -12,14 +12,14 @@ range row start end =
     (option_zip (number row) (option_zip (number start) (number end)))
 
 -- the ranges of words, each of three words
-abbrev pub ranges_of : List (List ℕ) → Option (List AtomicRange)
-ranges_of [] = Some []
-ranges_of (row ∷ start ∷ end ∷ words) = option_map (λ p. p.0 ∷ p.1) (option_zip (range row start end) (ranges_of words))
-ranges_of words = None
+abbrev pub ranges_of_words : List (List ℕ) → Option (List AtomicRange)
+ranges_of_words [] = Some []
+ranges_of_words (row ∷ start ∷ end ∷ words) = option_map (λ p. p.0 ∷ p.1) (option_zip (range row start end) (ranges_of_words words))
+ranges_of_words words = None
 
 -- the ranges that a text names; its words are separated by single spaces
 unfoldable pub ranges : List ℕ → Option (List AtomicRange)
-ranges text = ranges_of (slice_split is_separator text)
+ranges text = ranges_of_words (slice_split is_separator text)
 
 -- the ranges of the text after a space; there are none where there is no space
 abbrev pub ranges_after_space : Option (List ℕ) → Option (List AtomicRange)

@@ -261,9 +261,21 @@ module _ (By Own : Fact) (by : Reckoning By) (past : Past Own) where
   unguarded_by old call.RemoveLineNumber h = (tt, λ can. sound_settings old.document (line_numbers_set old false) h)
   unguarded_by old (call.SetAlignment alignment) h = (tt, λ can. sound_settings old.document (alignment_set old alignment) h)
   unguarded_by old (call.TrySetAtomicRanges ranges) h = (tt, λ can. sound_ranges (rejected_ranges old ranges.now) old ranges.now h refl)
-  unguarded_by old call.ClearAtomicRanges h =
-      (tt, λ can. record { cursor = h.cursor; anchor = h.anchor; ranges = valid_none (lines old.document.text); in_order = refl; undo = h.undo; redo = h.redo; bounded = h.bounded; marks = h.marks; whole = h.whole;
-      past = none_past old.document.text old.document.log.done old.document.log.undone old.document.past_ranges.on })
+  unguarded_by old call.ClearAtomicRanges h = (
+    tt,
+    λ can. record {
+      cursor = h.cursor;
+      anchor = h.anchor;
+      ranges = valid_none (lines old.document.text);
+      in_order = refl;
+      undo = h.undo;
+      redo = h.redo;
+      bounded = h.bounded;
+      marks = h.marks;
+      whole = h.whole;
+      past = none_past old.document.text old.document.log.done old.document.log.undone old.document.past_ranges.on;
+    },
+  )
   unguarded_by old (call.SetChangeLog unit) h = (tt, λ can. sound_changes old.document (no_changes unit) h)
   unguarded_by old call.TakeChanges h = (tt, λ can. sound_changes old.document (no_changes old.document.changes.unit) h)
   unguarded_by old (call.Render area) h = (tt, λ can. h)

@@ -3,13 +3,12 @@ use Rattle.std.proofs.Common.{◌≡◌, ◌∙◌, ℕ, suc, ◌≤◌, List, [
 use Rattle.std.specs.Prelude.{All, IfNone, IfSome}
 use Rattle.std.proofs.lemmas.List.{append-nil, append_assoc, length-map, length-take-le}
 use Rattle.std.proofs.lemmas.Option.{slice_get_within}
-use Rattle.std.proofs.lemmas.List.Elements.{All-head, All-nil, All-tail, All-take}
+use Rattle.std.proofs.lemmas.List.Elements.{All-head, All-tail, All-take}
 use Rattle.textarea_calls.specs.Possible.{CanBeMade}
 use Rattle.textarea_calls.specs.declared.answer.Answer.{Answer}
 use Rattle.textarea_calls.specs.declared.call.Call.{Call}
 use Rattle.textarea_change.specs.declared.change.ChangeUnit.{ChangeUnit}
 use Rattle.textarea_screen.specs.declared.screen.buffer.Buffer.{Buffer}
-use Rattle.textarea_text.specs.Text.{Symbol}
 use Rattle.textarea_document.specs.Changes.{ChangeView, LoggedChanges as Log, changed_by_all}
 use Rattle.textarea_document.specs.ChangesLead.{ChangesLead}
 use Rattle.textarea_document.specs.DocumentState.{DocumentState}

@@ -1,5 +1,5 @@
 -- What the text has after the splices of calls.
-use Rattle.std.proofs.Common.{◌≡◌, ◌∙◌, ◌+◌, ◌==◌, Bool, true, false, cond, List, [], ◌∷◌, ◌++◌, length, take, drop, replicate, Option, None, Some, refl, subst, sym}
+use Rattle.std.proofs.Common.{◌≡◌, ◌∙◌, ◌+◌, ◌==◌, Bool, true, false, cond, List, [], ◌∷◌, ◌++◌, length, take, drop, Option, None, Some, refl, subst, sym}
 use Rattle.std.specs.Prelude.{All}
 use Rattle.std.proofs.lemmas.List.Elements.{All-append, All-cons, All-drop, All-nil, All-replicate, All-take}
 use Rattle.textarea_data.specs.declared.range.AtomicRange.{AtomicRange}
@@ -19,7 +19,8 @@ use Rattle.tui_textarea.specs.Fitting.{fitting_count}
 use Rattle.tui_textarea.specs.LayoutCalls.{tab_length}
 use Rattle.tui_textarea.specs.Removals.{cursor_line, in_line, is_at_line_end}
 use Rattle.tui_textarea.specs.Selection.{unselected}
-use Rattle.tui_textarea.specs.Splices.{line_end_splices, line_head_splices, selected_splices_or, splices_from, splices_up_to, str_splices, symbol_after_splices, symbol_before_splices, whole_range_splices_or, word_after_splices, word_before_splices}
+use Rattle.tui_textarea.specs.Splices.{line_end_splices, line_head_splices, selected_splices_or, splices_from, splices_up_to, str_splices}
+use Rattle.tui_textarea.specs.Splices.{symbol_after_splices, symbol_before_splices, whole_range_splices_or, word_after_splices, word_before_splices}
 use Rattle.tui_textarea.specs.Units.{earlier_start, later_end, whole_end, whole_start}
 use Rattle.tui_textarea.specs.State.{State}
 

@@ -21,13 +21,6 @@ use Rattle.textarea_search.proofs.ColumnLemmas.{All-along}
 
 -- ---- the number of characters in the first bytes of a line
 
--- the number of characters does not depend on the value of the first one
-same_count : (n c d : ℕ) (bytes : List ℕ) → length (chars_after n c bytes) ≡ length (chars_after n d bytes)
-same_count zero c d [] = refl
-same_count zero c d (b ∷ bytes) = refl
-same_count (suc n) c d [] = refl
-same_count (suc n) c d (b ∷ bytes) = same_count n (c * 64 + (b - 128)) (d * 64 + (b - 128)) bytes
-
 first_fewer : (n c k : ℕ) (bytes : List ℕ) → length (chars_after n c (take k bytes)) ≤ length (chars_after n c bytes)
 first_fewer zero c k [] = by_empty k
   where
@@ -41,21 +34,21 @@ first_fewer (suc n) c (suc k) [] = omega arith
 first_fewer (suc n) c (suc k) (b ∷ bytes) = first_fewer n (c * 64 + (b - 128)) k bytes
 
 -- the first bytes of a text have at most its characters
-fewer : (k : ℕ) (bytes : List ℕ) → length (chars (take k bytes)) ≤ length (chars bytes)
+pub fewer : (k : ℕ) (bytes : List ℕ) → length (chars (take k bytes)) ≤ length (chars bytes)
 unfolding chars
 fewer zero bytes = omega arith
 fewer (suc k) [] = omega arith
 fewer (suc k) (b ∷ bytes) = first_fewer (continuation_len b) (lead_bits b) k bytes
 
 -- bytes after a whole character
-one_more : (c : ℕ) (bytes : List ℕ) → length (chars_after zero c bytes) ≤ 1 + length (chars bytes)
+one_more : (c : ℕ) (bytes : List ℕ) → length (chars_after zero c bytes) ≡ 1 + length (chars bytes)
 unfolding chars
 one_more c [] = omega arith
 one_more c (b ∷ bytes) = omega arith
 
-leads_one : (b : ℕ) (bytes rest : List ℕ) (n : ℕ) → continuation_len b ≡ n → ((c : ℕ) → length (chars_after n c bytes) ≤ 1 + length (chars rest)) → length (chars (b ∷ bytes)) ≤ 1 + length (chars rest)
+leads_one : (b : ℕ) (bytes rest : List ℕ) (n : ℕ) → continuation_len b ≡ n → ((c : ℕ) → length (chars_after n c bytes) ≡ 1 + length (chars rest)) → length (chars (b ∷ bytes)) ≡ 1 + length (chars rest)
 unfolding chars
-leads_one b bytes rest n is h = subst (λ m. length (chars_after m (lead_bits b) bytes) ≤ 1 + length (chars rest)) (sym is) (h (lead_bits b))
+leads_one b bytes rest n is h = subst (λ m. length (chars_after m (lead_bits b) bytes) ≡ 1 + length (chars rest)) (sym is) (h (lead_bits b))
 
 alone : (b : ℕ) → b < 128 → continuation_len b ≡ 0
 alone b low = rw (lt-ltb b 128 low) refl
@@ -69,28 +62,28 @@ before_two b high low = rw (le-ltb b 128 (omega (arith, high)), le-ltb b 224 hig
 before_three : (b : ℕ) → 240 ≤ b → continuation_len b ≡ 3
 before_three b high = rw (le-ltb b 128 (omega (arith, high)), le-ltb b 224 (omega (arith, high)), le-ltb b 240 high) refl
 
--- the bytes of any number are one character at most
-encoded_one : (c : ℕ) (rest : List ℕ) → length (chars (encode_utf8 c ++ rest)) ≤ 1 + length (chars rest)
+-- the bytes of any number are one character
+encoded_one : (c : ℕ) (rest : List ℕ) → length (chars (encode_utf8 c ++ rest)) ≡ 1 + length (chars rest)
 unfolding encode_utf8
 encoded_one c rest =
-    by_test AtMostOne (nat_lt c 128) _ _
+    by_test IsOne (nat_lt c 128) _ _
     (λ low. leads_one c rest rest 0 (alone c (ltb-true c 128 low)) (λ d. one_more d rest))
-    (λ high. by_test AtMostOne (nat_lt c 2048) _ _
+    (λ high. by_test IsOne (nat_lt c 2048) _ _
     (λ low. leads_one (192 + c / 64) _ rest 1 (before_one (192 + c / 64) (omega arith) (omega (arith, ltb-true c 2048 low))) (λ d. one_more _ rest))
-    (λ high. by_test AtMostOne (nat_lt c 65536) _ _
+    (λ high. by_test IsOne (nat_lt c 65536) _ _
     (λ low. leads_one (224 + c / 4096) _ rest 2 (before_two (224 + c / 4096) (omega arith) (omega (arith, ltb-true c 65536 low))) (λ d. one_more _ rest))
     (λ high. leads_one (240 + c / 262144) _ rest 3 (before_three (240 + c / 262144) (omega arith)) (λ d. one_more _ rest))))
   where
-    AtMostOne : List ℕ → Type 0
-    AtMostOne bytes = length (chars (bytes ++ rest)) ≤ 1 + length (chars rest)
+    IsOne : List ℕ → Type 0
+    IsOne bytes = length (chars (bytes ++ rest)) ≡ 1 + length (chars rest)
 
-encoded_fewer : (line : List ℕ) → length (chars (encode_utf8_all line)) ≤ length line
+pub encoded_as_many : (line : List ℕ) → length (chars (encode_utf8_all line)) ≡ length line
 unfolding chars
-encoded_fewer [] = omega arith
-encoded_fewer (c ∷ line) = omega (arith, encoded_one c (encode_utf8_all line), encoded_fewer line)
+encoded_as_many [] = omega arith
+encoded_as_many (c ∷ line) = omega (arith, encoded_one c (encode_utf8_all line), encoded_as_many line)
 
-column_within : (line : List ℕ) (byte : ℕ) → column_of_byte (encode_utf8_all line) byte ≤ length line
-column_within line byte = omega (arith, fewer byte (encode_utf8_all line), encoded_fewer line)
+pub column_within : (line : List ℕ) (byte : ℕ) → column_of_byte (encode_utf8_all line) byte ≤ length line
+column_within line byte = omega (arith, fewer byte (encode_utf8_all line), encoded_as_many line)
 
 -- ---- the starts of matches
 
@@ -125,7 +118,7 @@ starts_are_in_text (Some pattern) text =
 
 -- ---- the one that is found
 
-found_has : {X : Type 0} (P : X → Type 0) (test : X → Bool) (xs : List X) → All P xs → IfSome (find test xs) P
+pub found_has : {X : Type 0} (P : X → Type 0) (test : X → Bool) (xs : List X) → All P xs → IfSome (find test xs) P
 found_has P test [] all = tt
 found_has P test (x ∷ xs) all =
     by_test (λ found. IfSome found P) (test x) (Some x) (find test xs)

@@ -28,7 +28,10 @@ pub mod Ends
 mod TypedLines
 mod MatchOrder
 mod MatchSteps
-mod MatchWalk
+pub mod MatchWalk
+mod MatchesOfLines
+mod MatchSpans
+mod MatchStops
 mod OneTarget
 pub mod Frames
 mod OneAct
@@ -44,9 +47,14 @@ mod TextFailures
 mod Cases
 pub mod Settling
 pub mod WholeRemovals
+mod RowPlaces
+mod WholeEnds
 mod WrappedLines
 mod Stepping
 mod Replacing
+mod WholeStretches
+mod WholeLines
+mod FirstRemovals
 mod RangesOverActions
 mod Lifted
 mod Unedited

@@ -131,7 +131,7 @@ at_start state =
     ∙ ap (λ (found : Option AtomicRange). range_edge_or found (0, 0) Forward) (none_inside state.document.ranges)
 
 -- the state after that
-gone : State → State
+abbrev gone : State → State
 gone state = settled Forward (gone_to state (0, 0))
 
 gone_is_at_start : (state : State) → (gone state).document.cursor ≡ (0, 0)

@@ -51,8 +51,8 @@ range_removal_made document direction range h is =
 
 -- ---- by index
 
-index_is_place : (text : List Symbol) (index : ℕ) → index ≤ length text → IsPlace text (place_of text index) × (index_of text (place_of text index) ≡ index)
-index_is_place text index within =
+pub place_by_index : (text : List Symbol) (index : ℕ) → index ≤ length text → IsPlace text (place_of text index) × (index_of text (place_of text index) ≡ index)
+place_by_index text index within =
     let front = take index text in
     let whole = take-append-drop index text in (
       subst (λ t. IsPlace t (end (0, 0) front)) whole (IsPlace-end front (drop index text)),
@@ -63,12 +63,12 @@ pub ahead_made : (document : DocumentState) (count : ℕ) → IsSound document �
     → HasEffect document (Remove document.cursor (place_of document.text (index_ahead document count)))
 ahead_made document count h some =
     let less : cursor_index document < index_ahead document count = grind (arith, nat_tests) in
-    let to = index_is_place document.text (index_ahead document count) (omega arith) in
+    let to = place_by_index document.text (index_ahead document count) (omega arith) in
     (h.cursor, to.0, omega (arith, less, to.1))
 
 pub whole_made : (document : DocumentState) → 0 < length document.text → HasEffect document (Remove (0, 0) (place_of document.text (length document.text)))
 whole_made document some =
-    let to = index_is_place document.text (length document.text) (omega arith) in
+    let to = place_by_index document.text (length document.text) (omega arith) in
     (start_is_place document.text, to.0, omega (arith, some, to.1))
 
 -- ---- in the cursor's line

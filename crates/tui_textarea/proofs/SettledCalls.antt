@@ -1,5 +1,5 @@
 -- No call leaves the cursor or the anchor inside a cluster, if the cursor goes by clusters.
-use Rattle.std.proofs.Common.{◌≡◌, ◌∙◌, ◌&&◌, ℕ, not, Bool, true, false, List, [], ◌∷◌, Option, None, Some, IfSome, ap, refl, subst, sym, is_some, ⊎_elim}
+use Rattle.std.proofs.Common.{◌≡◌, ◌&&◌, ℕ, not, Bool, true, false, List, [], ◌∷◌, Option, None, Some, IfSome, ap, refl, subst, sym, is_some, ⊎_elim}
 use Rattle.std.proofs.lemmas.Bool.{and_parts, false≢true}
 use Rattle.textarea_calls.specs.Possible.{CanBeMade}
 use Rattle.textarea_calls.specs.declared.action.Action.{Action}
@@ -16,6 +16,7 @@ use Rattle.textarea_data.specs.declared.range.AtomicCursorBias.TheVariants.{Forw
 use Rattle.textarea_data.specs.declared.range.AtomicRange.{AtomicRange}
 use Rattle.textarea_data.specs.declared.range.RejectedAtomicRange.{RejectedAtomicRange}
 use Rattle.textarea_ranges.specs.Lookup.{range_around}
+use Rattle.textarea_search.specs.PlainTexts.{text_pattern}
 use Rattle.textarea_text.specs.Place.{Place, line_of}
 use Rattle.textarea_text.specs.Text.{Symbol, lines}
 use Rattle.textarea_document.specs.DocumentState.{DocumentState}
@@ -29,7 +30,8 @@ use Rattle.tui_textarea.specs.Guards.{barred_after, has_several_lines, is_barred
 use Rattle.tui_textarea.specs.Input.{IsAfterAction, asked_by, asked_without_shortcuts}
 use Rattle.tui_textarea.specs.Moves.{IsMovedWith, after_move_by, bias_of, pushed}
 use Rattle.tui_textarea.specs.Outcomes.{IsAfterCall, IsAfterOutOfMemory}
-use Rattle.tui_textarea.specs.Ranges.{ranges_accepted}
+use Rattle.tui_textarea.specs.Ranges.{ranges_accepted, ranges_cleared}
+use Rattle.tui_textarea.specs.Search.{with_pattern}
 use Rattle.tui_textarea.specs.Selection.{selection_cancelled, selection_copied, unselected}
 use Rattle.tui_textarea.specs.State.{State}
 use Rattle.tui_textarea.specs.Units.{IsSettled, IsSettledBy, settled}
@@ -57,8 +59,8 @@ same_settled old new same at h =
     by : (found : CursorUnit) → IsSettledBy found old.document → IsSettledBy found new.document
     by unit.Character h = tt
     by unit.Cluster h = record {
-      cursor = subst (λ (p : Positions). is_stop p.2.0 (lines p.2.1) p.0 ≡ true) (sym at) h.cursor;
-      anchor = subst (λ (p : Positions). IfSome p.1.0 (λ place. is_stop p.2.0 (lines p.2.1) place ≡ true)) (sym at) h.anchor;
+      cursor = subst (λ (p : Positions). is_stop p.2 (lines p.3) p.0 ≡ true) (sym at) h.cursor;
+      anchor = subst (λ (p : Positions). IfSome p.1 (λ place. is_stop p.2 (lines p.3) place ≡ true)) (sym at) h.anchor;
     }
 
 -- nothing is selected any more
@@ -137,7 +139,7 @@ kept old call.Copy none sound h = copied_settled old h
 kept old (call.TrySetAtomicRanges ranges) none sound h = ranges_set_settled (rejected_ranges old ranges.now) old ranges.now sound refl h
 kept old call.ClearAtomicRanges none sound h = by old.settings.cursor_unit h
   where
-    by : (found : CursorUnit) → IsSettledBy found old.document → IsSettledBy found (record old.document { ranges = [] })
+    by : (found : CursorUnit) → IsSettledBy found old.document → IsSettledBy found (ranges_cleared old).document
     by unit.Character h = tt
     by unit.Cluster h = record {
       cursor = edge_stays old.document.ranges (lines old.document.text) old.document.cursor h.cursor;
@@ -185,9 +187,10 @@ module _ (leads : LeadsToPlaces) where
   call_settled old new (call.Move cursor_move) returned sound h can k = moved_settled old new (is_some old.document.anchor) cursor_move sound k
   call_settled old new (call.Scroll scrolling) returned sound h can k = moved_settled (viewport_scrolled old scrolling) new (is_some old.document.anchor) move.InViewport sound k
   call_settled old new (call.SetSearchPattern text) PatternRejected sound h can k = subst IsSettled (sym k) h
-  call_settled old new (call.SetSearchPattern text) returned sound h can k = subst IsSettled (sym k) (same_settled old _ refl refl h)
+  call_settled old new (call.SetSearchPattern text) returned sound h can k = subst IsSettled (sym k) (same_settled old (with_pattern old text.now) refl refl h)
   call_settled old new (call.SetSearchText text ignore_case whole_word) PatternRejected sound h can k = subst IsSettled (sym k) h
-  call_settled old new (call.SetSearchText text ignore_case whole_word) returned sound h can k = subst IsSettled (sym k) (same_settled old _ refl refl h)
+  call_settled old new (call.SetSearchText text ignore_case whole_word) returned sound h can k =
+      subst IsSettled (sym k) (same_settled old (with_pattern old (text_pattern text.now ignore_case whole_word)) refl refl h)
   call_settled old new (call.Render area) returned sound h can k =
       same_settled old new (ap (λ (s : State). s.settings.cursor_unit) k.rest) (ap positions (drawn_document old new area k)) h
   call_settled old new made returned sound h can k = subst IsSettled (sym k) (state_settled old made sound can h)

@@ -1,5 +1,5 @@
 -- No run leaves the cursor or the anchor inside a cluster, if the cursor goes by clusters.
-use Rattle.std.proofs.Common.{◌≡◌, ℕ, List, [], ◌∷◌, map, take, Option, None, Some, subst, sym, inl, inr}
+use Rattle.std.proofs.Common.{ℕ, List, [], ◌∷◌, map, take, Option, None, Some, subst, sym, inl, inr}
 use Rattle.std.specs.Prelude.{All}
 use Rattle.std.proofs.lemmas.List.Elements.{All-head, All-tail, All-take}
 use Rattle.textarea_calls.specs.Possible.{CanBeMade}

@@ -1,5 +1,5 @@
 -- An undo gives the same text wherever the cursor and the anchor are.
-use Rattle.std.proofs.Common.{◌≡◌, ap, refl}
+use Rattle.std.proofs.Common.{◌≡◌, refl}
 use Rattle.textarea_calls.specs.declared.call.Call.{Call}
 use Rattle.textarea_data.specs.declared.range.AtomicCursorBias.{AtomicCursorBias}
 use Rattle.textarea_document.specs.DocumentState.{logged}

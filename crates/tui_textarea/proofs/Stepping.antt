@@ -1,5 +1,5 @@
 -- The state after an edit is reached by the splices in the definitions, and is sound.
-use Rattle.std.proofs.Common.{◌≡◌, ℕ, ◌==◌, ◌<◌, nat_lt, Bool, true, false, if◌then◌else◌, List, [], ◌∷◌, ◌++◌, length, replicate}
+use Rattle.std.proofs.Common.{◌≡◌, ℕ, ◌==◌, ◌<◌, nat_lt, Bool, true, false, if◌then◌else◌, List, [], ◌∷◌, ◌++◌, length}
 use Rattle.std.proofs.Common.{IfSome, Option, None, Some, option_map, ap, refl, subst, ◌∙◌, arith}
 use Rattle.textarea_data.specs.declared.cursor.CursorMove.{CursorMove}
 use Rattle.textarea_data.specs.declared.range.AtomicCursorBias.TheVariants.{Forward as BiasForward}

@@ -1,6 +1,6 @@
 -- One undo takes back the edits of a call that are in one group.
 use Rattle.std.proofs.Common.{◌≡◌, ◌∙◌, ◌+◌, ◌-◌, ◌<◌, ◌≤◌, ◌==◌, ◌&&◌, ◌||◌, ℕ, suc, Bool, true, false, cond, List, [], ◌∷◌, ◌++◌, length, take, drop, get_or, Option, Some, ap, arith, refl}
-use Rattle.std.proofs.Common.{nat_lt, replicate, slice_get, sym, subst}
+use Rattle.std.proofs.Common.{nat_lt, slice_get, sym, subst}
 use Rattle.std.proofs.Math.Bool.{and-false}
 use Rattle.std.proofs.Math.Seq.{get_or-append_seam}
 use Rattle.std.proofs.lemmas.List.{drop-append-le, get_or_append_left, length-append, length-drop, take_all, take-append-le}

@@ -1,5 +1,5 @@
 -- The texts that undos reach.
-use Rattle.std.proofs.Common.{◌≡◌, ◌≢◌, ◌↔◌, ◌∙◌, ◌&&◌, ℕ, zero, suc, ◌-◌, ◌<◌, ◌≤◌, Bool, true, false, List, [], ◌∷◌, length, is_some, refl, sym, subst, ap, arith}
+use Rattle.std.proofs.Common.{◌≡◌, ◌≢◌, ◌↔◌, ◌∙◌, ◌&&◌, ℕ, zero, suc, ◌-◌, ◌<◌, ◌≤◌, Bool, true, false, List, [], ◌∷◌, length, is_some, not, refl, sym, subst, ap, arith}
 use Rattle.std.specs.List.{slice_get}
 use Rattle.textarea_history.specs.Groups.{group_count}
 use Rattle.textarea_history.specs.HistoryLaw.{times}
@@ -107,7 +107,7 @@ steps_back state restores =
       fewer = λ new found is.
           let some = (undoes_parts state found).1 in
           subst (λ (s : State). done_groups s.document.log < done_groups document.log) (sym (undone_is state new found is ∙ settled_as Forward (with_document state (after_undo document))))
-              (omega (arith, one_less document restores some, some_groups document.log some));
+          (omega (arith, one_less document restores some, some_groups document.log some));
       last = λ written editable none other h. other (at_last document written h.0 (nothing_found state editable none) h.1 h.2);
       editable = stays_editable state;
     }

@@ -102,10 +102,16 @@ unedited state (call.Scroll scrolling) is = record { no_splice = refl; text_stay
 unedited state call.Copy is = record { no_splice = refl; text_stays = λ returned new after. ap text after ∙ copied state }
 unedited state (call.SetSearchPattern pattern) is = record { no_splice = refl; text_stays = λ returned new after. ap text after ∙ pattern_set state pattern.now returned }
 unedited state (call.SetSearchText plain ignore_case whole_word) is = record { no_splice = refl; text_stays = λ returned new after. ap text after ∙ pattern_set state (text_pattern plain.now ignore_case whole_word) returned }
-unedited state (call.SearchForward at_cursor) is = record { no_splice = refl; text_stays = λ returned new after. ap text after
-    ∙ settled_text Forward (after_search state (next_match state at_cursor)) ∙ searched state (next_match state at_cursor) }
-unedited state (call.SearchBack at_cursor) is = record { no_splice = refl; text_stays = λ returned new after. ap text after
-    ∙ settled_text Backward (after_search state (previous_match state at_cursor)) ∙ searched state (previous_match state at_cursor) }
+unedited state (call.SearchForward at_cursor) is = record {
+  no_splice = refl;
+  text_stays = λ returned new after. ap text after
+      ∙ settled_text Forward (after_search state (next_match state at_cursor)) ∙ searched state (next_match state at_cursor);
+}
+unedited state (call.SearchBack at_cursor) is = record {
+  no_splice = refl;
+  text_stays = λ returned new after. ap text after
+      ∙ settled_text Backward (after_search state (previous_match state at_cursor)) ∙ searched state (previous_match state at_cursor);
+}
 unedited state (call.TrySetAtomicRanges ranges) is = record { no_splice = refl; text_stays = λ returned new after. ap text after ∙ ranges_set (rejected_ranges state ranges.now) state ranges.now }
 unedited state (call.SetSingleLine single_line) is = record { no_splice = refl; text_stays = λ returned new after. ap text after ∙ single_set state single_line }
 unedited state (call.Render area) is = record { no_splice = refl; text_stays = λ returned new after. ap (λ (d : DocumentState). d.text) (drawn_document state new area after) }

@@ -1,7 +1,7 @@
 -- The state after a call that first removes the selected text.
 use Rattle.std.proofs.Common.{◌≡◌, ◌||◌, Bool, true, false, Option, None, Some, is_some, Result, Ok, Err, ap, inr, refl, sym, ◌∙◌}
 use Rattle.std.proofs.lemmas.Bool.{cond-false, cond-true, or_left, or_parts, or_right, true≢false}
-use Rattle.std.proofs.lemmas.Result.{IfOk-weaker}
+use Rattle.std.proofs.lemmas.Result.{IfOk-weaker, on_ok_weaker}
 use Rattle.std.specs.Result.{IfOk, OnErr, OnOk}
 use Rattle.textarea_data.specs.declared.range.AtomicCursorBias.TheVariants.{Forward}
 use Rattle.textarea_data.specs.declared.range.AtomicRange.{AtomicRange}
@@ -72,33 +72,57 @@ answered_unselected (Ok found) has {view} {state} is removed gone none h =
     h ∙ ap has (none_gone is removed gone none) ∙ ap (λ (b : Bool). b || has state) (sym (ap (λ (s : State). is_selected s.document) (sym is) ∙ none))
 answered_unselected (Err e) has is removed gone none h = h
 
--- its result if there is no range at the cursor either
-pub answered_unhit : {E : Type 0} (r : Result Bool E) (has : State → Bool) (direction : AtomicDeleteDirection) {view state : State} → view ≡ state
-    → (removed : DocumentState) (after : State) → removed ≡ selected_removed view.document view.time → is_selected view.document ≡ false
-    → is_some (range_at_cursor removed direction) ≡ false → after ≡ with_document view removed → IfOk r (λ b. b ≡ has after)
-    → IfOk r (λ b. b ≡ removes_or state (is_some (range_at_cursor state.document direction) || has state))
-answered_unhit r has direction {view} is removed after gone none unhit stays h =
-    answered_unselected r (λ (s : State). is_some (range_at_cursor s.document direction) || has s) is removed gone none
-    (IfOk-weaker r (λ b. b ≡ has after) (λ b. b ≡ (is_some (range_at_cursor removed direction) || has (with_document view removed)))
-    (λ b e. e ∙ ap has stays ∙ sym (ap (λ (t : Bool). t || has (with_document view removed)) unhit)) h)
-
 -- a range that was there is removed, whatever is removed otherwise
-pub hit_removed : (found : Option AtomicRange) (state new other : State) → is_some found ≡ true → new ≡ cursor_range_removed_or found state state
+hit_removed : (found : Option AtomicRange) (state new other : State) → is_some found ≡ true → new ≡ cursor_range_removed_or found state state
     → new ≡ cursor_range_removed_or found state other
 hit_removed None state new other some h = absurd (true≢false (sym some))
 hit_removed (Some range) state new other some h = h
 
 -- without one the state stays, and the other removal is made
-pub unhit_stays : (found : Option AtomicRange) (state new : State) → is_some found ≡ false → new ≡ cursor_range_removed_or found state state → new ≡ state
+unhit_stays : (found : Option AtomicRange) (state new : State) → is_some found ≡ false → new ≡ cursor_range_removed_or found state state → new ≡ state
 unhit_stays None state new none h = h
 unhit_stays (Some range) state new none h = absurd (true≢false none)
 
-pub unhit_removed : (found : Option AtomicRange) (state other : State) → is_some found ≡ false → other ≡ cursor_range_removed_or found state other
+unhit_removed : (found : Option AtomicRange) (state other : State) → is_some found ≡ false → other ≡ cursor_range_removed_or found state other
 unhit_removed None state other none = refl
 unhit_removed (Some range) state other none = absurd (true≢false none)
 
+-- if nothing was selected, and then a range at the cursor was removed
+pub range_gone : (other : State → State) (direction : AtomicDeleteDirection) {view state : State} → view ≡ state → (removed : DocumentState) (new : State)
+    → removed ≡ selected_removed view.document view.time → is_selected view.document ≡ false → is_some (range_at_cursor removed direction) ≡ true
+    → new ≡ cursor_range_removed_or (range_at_cursor removed direction) (with_document view removed) (with_document view removed)
+    → new ≡ unselected_or state (cursor_range_removed_or (range_at_cursor state.document direction) state (other state))
+range_gone other direction {view} is removed new gone none some h =
+    let left = with_document view removed in
+    else_unselected (λ (s : State). cursor_range_removed_or (range_at_cursor s.document direction) s (other s)) is removed new gone none
+    (hit_removed (range_at_cursor removed direction) left new (other left) some h)
+
+-- if nothing was selected, and no range was at the cursor: the state after the other removal
+pub other_gone : {T E : Type 0} (r : Result T E) (other : State → State) (direction : AtomicDeleteDirection) {view state : State} → view ≡ state
+    → (removed : DocumentState) (after new : State) → removed ≡ selected_removed view.document view.time → is_selected view.document ≡ false
+    → is_some (range_at_cursor removed direction) ≡ false
+    → after ≡ cursor_range_removed_or (range_at_cursor removed direction) (with_document view removed) (with_document view removed)
+    → OnOk r (new ≡ other after) → OnOk r (new ≡ unselected_or state (cursor_range_removed_or (range_at_cursor state.document direction) state (other state)))
+other_gone r other direction {view} is removed after new gone none unhit h made =
+    let found = range_at_cursor removed direction in
+    let left = with_document view removed in
+    then_unselected r (λ (s : State). cursor_range_removed_or (range_at_cursor s.document direction) s (other s)) is removed new gone none
+    (on_ok_weaker r (λ e. e ∙ ap other (unhit_stays found left after unhit h) ∙ unhit_removed found left (other left) unhit) made)
+
+-- and its result
+pub answered_unhit : {E : Type 0} (r : Result Bool E) (has : State → Bool) (direction : AtomicDeleteDirection) {view state : State} → view ≡ state
+    → (removed : DocumentState) (after : State) → removed ≡ selected_removed view.document view.time → is_selected view.document ≡ false
+    → is_some (range_at_cursor removed direction) ≡ false
+    → after ≡ cursor_range_removed_or (range_at_cursor removed direction) (with_document view removed) (with_document view removed) → IfOk r (λ b. b ≡ has after)
+    → IfOk r (λ b. b ≡ removes_or state (is_some (range_at_cursor state.document direction) || has state))
+answered_unhit r has direction {view} is removed after gone none unhit h made =
+    let left = with_document view removed in
+    answered_unselected r (λ (s : State). is_some (range_at_cursor s.document direction) || has s) is removed gone none
+    (IfOk-weaker r (λ b. b ≡ has after) (λ b. b ≡ (is_some (range_at_cursor removed direction) || has left))
+    (λ b e. e ∙ ap has (unhit_stays (range_at_cursor removed direction) left after unhit h) ∙ sym (ap (λ (t : Bool). t || has left) unhit)) made)
+
 -- a range that was found at the cursor then is one of the state
-pub range_found : {view state : State} → view ≡ state → (removed : DocumentState) → removed ≡ selected_removed view.document view.time → is_selected view.document ≡ false
+range_found : {view state : State} → view ≡ state → (removed : DocumentState) → removed ≡ selected_removed view.document view.time → is_selected view.document ≡ false
     → (direction : AtomicDeleteDirection) → range_at_cursor removed direction ≡ range_at_cursor state.document direction
 range_found is removed gone none direction = ap (λ (s : State). range_at_cursor s.document direction) (none_gone is removed gone none)
 

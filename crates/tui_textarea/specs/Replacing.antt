@@ -40,10 +40,14 @@ match_replaced_by (Some found) state symbols =
 abbrev pub match_replaced : State → List Symbol → State
 match_replaced state symbols = match_replaced_by (match_at_cursor state) state symbols
 
--- each match that can be replaced is replaced, in the text as it was before the call
+-- each of these stretches is replaced, in the text as it was before the call
+abbrev pub stretches_replaced : State → List (ℕ × ℕ) → List Symbol → State
+stretches_replaced state stretches symbols =
+    with_document state (all_replaced state.document stretches symbols state.time)
+
+-- each match that can be replaced is
 abbrev pub matches_replaced : State → List Symbol → State
-matches_replaced state symbols =
-    with_document state (all_replaced state.document (replaceable state) symbols state.time)
+matches_replaced state symbols = stretches_replaced state (replaceable state) symbols
 
 -- ---- their splices
 

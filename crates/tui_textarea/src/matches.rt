@@ -127,12 +127,10 @@ fn first_after(
 ) -> Option<(usize, usize)>
     ensures { result ≡ find (is_later cursor match_cursor) starts.now }
 {
-    for place in starts {
-        if is_later(cursor, match_cursor, *place) {
-            return Some(*place);
-        }
-    }
-    None
+    starts
+        .iter()
+        .copied()
+        .find(|place| is_later(cursor, match_cursor, *place))
 }
 
 fn last_before(
@@ -142,12 +140,11 @@ fn last_before(
 ) -> Option<(usize, usize)>
     ensures { result ≡ find (is_ahead Back cursor match_cursor) (reverse starts.now) }
 {
-    for place in starts.iter().rev() {
-        if is_later(*place, match_cursor, cursor) {
-            return Some(*place);
-        }
-    }
-    None
+    starts
+        .iter()
+        .rev()
+        .copied()
+        .find(|place| is_later(*place, match_cursor, cursor))
 }
 
 // Returns whether the position is after the mark in the text or, with `at_mark`, at it.

@@ -79,14 +79,19 @@ impl Document {
     fn draft(&self) -> Result<Draft, AllocError>
         ensures { IfOk result (λ draft. draft ≡ changes_taken self.now) }
     {
+        let text_layout = self.text_layout.clone()?;
+        let ranges = self.ranges.clone()?;
+        let history = self.history.clone()?;
+        let changes = self.changes.emptied();
+        let range_history = self.range_history.copied()?;
         Ok(Draft {
-            text_layout: self.text_layout.clone()?,
+            text_layout,
             cursor: self.cursor,
             anchor: self.anchor,
-            ranges: self.ranges.clone()?,
-            history: self.history.clone()?,
-            changes: self.changes.emptied(),
-            range_history: self.range_history.copied()?,
+            ranges,
+            history,
+            changes,
+            range_history,
         })
     }
 

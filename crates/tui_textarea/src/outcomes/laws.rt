@@ -150,16 +150,16 @@ pub fn settled_runs_stay()
 }
 
 /// If the cursor goes by clusters, what the first removal of a call takes begins and ends where neither
-/// a cluster nor an atomic range of the text strictly contains the position. So are all matches that
+/// a cluster nor an atomic range of the text strictly contains the position. So do all matches that
 /// `replace_all` replaces, and all that `outdent_lines` removes. `delete_str`, undo and redo may take
 /// parts of clusters.
 pub fn removals_take_whole_clusters()
     ensures first { (state : State) (call : Call) → IsSound state.document →
         GoesByClusters state → IsSettled state → ¬ TakesParts call →
         FirstTakesWhole state.document (splices_of state call) }
-    ensures matches { (state : State) → IsSound state.document → GoesByClusters state →
+    ensures matches { (state : State) → GoesByClusters state →
         AreWholeStretches state.document (replaceable state) }
-    ensures starts { (state : State) → IsSound state.document →
+    ensures starts { (state : State) →
         AreWholeStretches state.document (line_stretches state.document (Some Cluster)) }
 {}
 
@@ -176,11 +176,12 @@ pub fn each_call_stays_sound()
 }
 
 /// What happens to the atomic ranges over every run of calls that can be made, from every state
-/// that a text area has. Each range at the end covers the same characters as one of those that were
-/// set last, or of those at the start. It comes from one that was there then, or that an undo or a redo
-/// gave back. Only an undo or a redo splits a range. A range is dropped only by a removal that takes it
-/// completely, by an undo or a redo that disturbs it, or that gives others back, by new lines, by the
-/// call that clears ranges, and by new ranges.
+/// that a text area has. Each range at the end, also a remembered one, covers the same characters as
+/// one of those that were set last, or of those that were there or remembered at the start. It comes
+/// from one that was there then, or that an undo or a redo gave back. Only an undo or a redo splits a
+/// range. A range is dropped only by a removal that takes it completely, by an undo or a redo that
+/// disturbs it, or that gives others back, by new lines, by the call that clears ranges, and by new
+/// ranges.
 pub fn ranges_follow_each_run()
     ensures { (calls : List Call) (answers : List Answer) (refused : Option ℕ) (old new : State)
         (buffer displayed : Buffer) → IsSound old.document → All CanBeMade calls →

@@ -1,12 +1,12 @@
 //! Replacements of text, each one group of edits.
-ghost use Rattle.std.specs.Prelude.{◌≡◌, None, OnOk, OnErr, IsOk, IfOk, is_some, length, string_bytes, ◌&&◌, false, if◌then◌else◌};
+ghost use Rattle.std.specs.Prelude.{◌≡◌, ◌<◌, None, OnOk, OnErr, IsOk, IfOk, is_some, length, string_bytes, ◌&&◌, false, if◌then◌else◌};
 ghost use Rattle.std.specs.Arc.{arc_value};
 ghost use Rattle.std.specs.Str.{chars};
 ghost use Rattle.textarea_data.specs.declared.range.AtomicCursorBias.TheVariants.{Forward};
 ghost use Rattle.textarea_document.specs.Replacing.{stretch_symbols};
 ghost use Rattle.tui_textarea.specs.Prelude.{fragment_symbols, fragment_text, text_of, admitted, admitted_between, admitted_for, bars_each, is_editable, replaces_whole, settled, unless_read_only, whole_range_replaced};
 ghost use Rattle.tui_textarea.specs.Fitting.{fits_each};
-ghost use Rattle.tui_textarea.specs.Replacing.{match_at_cursor, match_replaced, match_replaced_by, matches_replaced, replaceable};
+ghost use Rattle.tui_textarea.specs.Replacing.{match_at_cursor, match_replaced, match_replaced_by, matches_replaced, replaceable, stretches_replaced};
 
 use crate::matches::{match_at, replaceable_in};
 use crate::textarea::TextArea;
@@ -162,12 +162,32 @@ impl TextArea<'_> {
             self.settle(AtomicCursorBias::Forward);
             return Ok(0);
         }
+        self.replace_stretches(stretches.as_slice(), text)
+    }
+
+    // Replaces each of these stretches by what is inserted of the text, if that fits in place of
+    // them; returns how many it replaced.
+    fn replace_stretches(
+        &mut self,
+        stretches: &[(usize, usize)],
+        text: &str,
+    ) -> Result<usize, AllocError>
+        requires some { 0 < length stretches.now }
+        ensures count { IfOk result (λ count. count ≡ (if fits_each self.old stretches.now
+            (admitted self.old (fragment_symbols (chars text.now))) then length stretches.now
+            else 0)) }
+        ensures ok { OnOk result (self.new ≡ (if fits_each self.old stretches.now
+            (admitted self.old (fragment_symbols (chars text.now))) then settled Forward
+            (stretches_replaced self.old stretches.now
+            (admitted self.old (fragment_symbols (chars text.now)))) else self.old)) }
+        ensures err { OnErr result (self.new ≡ self.old) }
+    {
         let fragment_lines = self.admitted_fragment(text)?;
-        if !self.fits_each(stretches.as_slice(), fragment_lines.as_slice()) {
+        if !self.fits_each(stretches, fragment_lines.as_slice()) {
             return Ok(0);
         }
         self.document
-            .replace_all(stretches.as_slice(), &fragment_lines, self.time)?;
+            .replace_all(stretches, &fragment_lines, self.time)?;
         self.settle(AtomicCursorBias::Forward);
         Ok(stretches.len())
     }

@@ -1,4 +1,4 @@
-use Rattle.std.proofs.Common.{◌≡◌, ◌∙◌, ◌||◌, [], ◌∷◌, ap, is_err, refl, sym}
+use Rattle.std.proofs.Common.{◌∙◌, ◌||◌, [], ◌∷◌, ap, is_err, refl, sym}
 use Rattle.std.proofs.Math.Bool.{or-false}
 use Rattle.std.proofs.lemmas.Result.{on_err_weaker, on_ok_weaker}
 use Rattle.textarea_calls.specs.FlagRule.{may_change_text}

@@ -1,6 +1,4 @@
-use Rattle.std.proofs.Common.{◌≡◌, ◌∙◌, ◌||◌, is_err, refl, sym}
-use Rattle.std.specs.List.{list_any}
-use Rattle.textarea_calls.specs.Edits.{edits}
+use Rattle.std.proofs.Common.{◌∙◌, ◌||◌, is_err, refl, sym}
 use Rattle.textarea_editor.proofs.Drafts.{IsNoted, any_edits_plain, fails_noted, makes_noted, mark_noted}
 use Rattle.textarea_editor.proofs.draft.Draft.make.Goals as goal
 use Rattle.textarea_editor.specs.Draft.{plain_calls}

@@ -1,4 +1,4 @@
-use Rattle.std.proofs.Common.{◌≡◌, ◌∙◌, Bool, [], ◌∷◌, ap, subst}
+use Rattle.std.proofs.Common.{◌∙◌, Bool, [], ◌∷◌, ap, subst}
 use Rattle.std.proofs.lemmas.Result.{on_err_weaker, on_ok_weaker}
 use Rattle.textarea_editor.proofs.Drafts.{fails_before, fails_then, makes_then, on_err}
 use Rattle.textarea_editor.proofs.draft.Draft.take_input.Goals as goal

@@ -1,4 +1,4 @@
-use Rattle.std.proofs.Common.{◌∙◌, ℕ, List, ap, length, sym}
+use Rattle.std.proofs.Common.{◌∙◌, ℕ, ap, length, sym}
 use Rattle.std.proofs.lemmas.List.{length-map}
 use Rattle.textarea_editor.proofs.editor.events.scrolls_past_end.Goals as goal
 use Rattle.textarea_editor.specs.HelpKeys.{passes_last_rows}

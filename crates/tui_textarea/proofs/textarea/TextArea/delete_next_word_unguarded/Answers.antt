@@ -1,11 +1,9 @@
-use Rattle.std.proofs.Common.{◌≡◌, ◌∙◌, ap, false, is_some, refl, sym}
+use Rattle.std.proofs.Common.{◌∙◌, refl, sym}
 use Rattle.std.proofs.lemmas.Bool.{false≢true}
-use Rattle.std.proofs.lemmas.Result.{on_ok_weaker}
 use Rattle.textarea_data.specs.declared.range.AtomicDeleteDirection.TheVariants.{Forward}
 use Rattle.textarea_document.specs.Edits.{range_at_cursor}
-use Rattle.tui_textarea.specs.Removals.{on_to_word_end_removed, has_line_after, word_after_removed}
-use Rattle.tui_textarea.specs.State.{with_document}
-use Rattle.tui_textarea.proofs.Unselected.{answered_unhit, else_unselected, hit_removed, none_at_place, range_removes, then_unselected, unhit_removed, unhit_stays}
+use Rattle.tui_textarea.specs.Removals.{has_line_after, on_to_word_end_removed}
+use Rattle.tui_textarea.proofs.Unselected.{answered_unhit, none_at_place, other_gone, range_gone, range_removes}
 use Rattle.tui_textarea.proofs.textarea.TextArea.delete_next_word_unguarded.Goals as goal
 
 pub returns-then-hit-clause-removed : goal.returns-then-hit-clause-removed
@@ -15,11 +13,8 @@ returns-then-hit-clause-removed c =
 
 pub returns-then-hit-clause-ok : goal.returns-then-hit-clause-ok
 returns-then-hit-clause-ok c =
-    let left = with_document c.self.inside c.remove_selection.new.self in
-    else_unselected word_after_removed c.self.view_is c.remove_selection.new.self c.remove_cursor_range-hit.new.self c.in_ok-remove_selection.ensures.ok
-    (sym c.in_ok-remove_selection.ensures.removed ∙ c.if-branch.false)
-    (hit_removed (range_at_cursor c.remove_selection.new.self Forward) left c.remove_cursor_range-hit.new.self (on_to_word_end_removed left) (sym c.in_ok-hit.ensures.removed ∙ c.if-hit.true)
-    c.in_ok-hit.ensures.ok)
+    range_gone on_to_word_end_removed Forward c.self.view_is c.remove_selection.new.self c.remove_cursor_range.new.self c.in_ok-remove_selection.ensures.ok
+    (sym c.in_ok-remove_selection.ensures.removed ∙ c.if-branch.false) (sym c.in_ok-hit.ensures.removed ∙ c.if-hit.true) c.in_ok-hit.ensures.ok
 
 pub returns-in_err-hit-clause-nothing : goal.returns-in_err-hit-clause-nothing
 returns-in_err-hit-clause-nothing c = λ stays.
@@ -29,19 +24,12 @@ returns-in_err-hit-clause-nothing c = λ stays.
 
 pub returns-clause-removed : goal.returns-clause-removed
 returns-clause-removed c =
-    let left = with_document c.self.inside c.remove_selection.new.self in
-    let found = range_at_cursor c.remove_selection.new.self Forward in
-    let unhit : is_some found ≡ false = sym c.in_ok-hit.ensures.removed ∙ c.if-hit.false in
-    answered_unhit c.remove_to_word_end.result has_line_after Forward c.self.view_is c.remove_selection.new.self c.remove_cursor_range-hit.new.self c.in_ok-remove_selection.ensures.ok
-    (sym c.in_ok-remove_selection.ensures.removed ∙ c.if-branch.false) unhit (unhit_stays found left c.remove_cursor_range-hit.new.self unhit c.in_ok-hit.ensures.ok)
+    answered_unhit c.remove_to_word_end.result has_line_after Forward c.self.view_is c.remove_selection.new.self c.remove_cursor_range.new.self c.in_ok-remove_selection.ensures.ok
+    (sym c.in_ok-remove_selection.ensures.removed ∙ c.if-branch.false) (sym c.in_ok-hit.ensures.removed ∙ c.if-hit.false) c.in_ok-hit.ensures.ok
     c.remove_to_word_end.ensures.removed
 
 pub returns-clause-ok : goal.returns-clause-ok
 returns-clause-ok c =
-    let left = with_document c.self.inside c.remove_selection.new.self in
-    let found = range_at_cursor c.remove_selection.new.self Forward in
-    let unhit : is_some found ≡ false = sym c.in_ok-hit.ensures.removed ∙ c.if-hit.false in
-    then_unselected c.remove_to_word_end.result word_after_removed c.self.view_is c.remove_selection.new.self c.remove_to_word_end.new.self c.in_ok-remove_selection.ensures.ok
-    (sym c.in_ok-remove_selection.ensures.removed ∙ c.if-branch.false)
-    (on_ok_weaker c.remove_to_word_end.result
-    (λ e. e ∙ ap on_to_word_end_removed (unhit_stays found left c.remove_cursor_range-hit.new.self unhit c.in_ok-hit.ensures.ok) ∙ unhit_removed found left (on_to_word_end_removed left) unhit) c.remove_to_word_end.ensures.ok)
+    other_gone c.remove_to_word_end.result on_to_word_end_removed Forward c.self.view_is c.remove_selection.new.self c.remove_cursor_range.new.self c.remove_to_word_end.new.self
+    c.in_ok-remove_selection.ensures.ok (sym c.in_ok-remove_selection.ensures.removed ∙ c.if-branch.false) (sym c.in_ok-hit.ensures.removed ∙ c.if-hit.false) c.in_ok-hit.ensures.ok
+    c.remove_to_word_end.ensures.ok

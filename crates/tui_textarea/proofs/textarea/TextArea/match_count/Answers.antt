@@ -15,9 +15,9 @@ returns-in-Character-clause-count c =
     (starts_are c.self.inside.search c.lines.result.now c.self.inside.document.text c.lines.ensures.lines)
     c.count.ensures.count))
 
-pub returns-in-Cluster-clause-count : goal.returns-in-Cluster-clause-count
-returns-in-Cluster-clause-count c =
+pub returns-in_ok-starts-in-Cluster-clause-count : goal.returns-in_ok-starts-in-Cluster-clause-count
+returns-in_ok-starts-in-Cluster-clause-count c =
     let now = c.args.self.now in
     let by : unit.Cluster ≡ now.settings.cursor_unit = sym c.in-Cluster.is ∙ ap (λ (s : State). s.settings.cursor_unit) c.self.view_is in
-    let starts = c.in_ok-starts.ensures.found ∙ ap (λ (found : CursorUnit). unit_starts found now.pattern now.document.text) by in
-    omega (arith, c.len.ensures, c.in_ok-starts.starts.ok, ap length starts)
+    let starts = c.in_ok-starts-in-Cluster.ensures.found ∙ ap (λ (found : CursorUnit). unit_starts found now.pattern now.document.text) by in
+    omega (arith, c.len.ensures, c.in_ok-starts-in-Cluster.starts.ok, ap length starts)

@@ -17,11 +17,11 @@ returns-in-Character-clause-index c =
     (starts_are c.self.inside.search c.lines.result.now c.self.inside.document.text c.lines.ensures.lines)
     c.index.ensures.index)))
 
-pub returns-in-Cluster-clause-index : goal.returns-in-Cluster-clause-index
-returns-in-Cluster-clause-index c =
+pub returns-in_ok-starts-in-Cluster-clause-index : goal.returns-in_ok-starts-in-Cluster-clause-index
+returns-in_ok-starts-in-Cluster-clause-index c =
     let now = c.args.self.now in
     let by : unit.Cluster ≡ now.settings.cursor_unit = sym c.in-Cluster.is ∙ ap (λ (s : State). s.settings.cursor_unit) c.self.view_is in
-    let starts = c.in_ok-starts.ensures.found ∙ ap (λ (found : CursorUnit). unit_starts found now.pattern now.document.text) by in
+    let starts = c.in_ok-starts-in-Cluster.ensures.found ∙ ap (λ (found : CursorUnit). unit_starts found now.pattern now.document.text) by in
     c.index_at.ensures
     ∙ ap (λ (some : List Place). index_at c.cursor-cursor.result some) (c.as_slice.ensures.value ∙ starts)
     ∙ ap (λ (place : Place). index_at place (unit_starts now.settings.cursor_unit now.pattern now.document.text)) (c.cursor-cursor.ensures.value ∙ ap (λ (s : State). s.document.cursor) c.self.view_is)

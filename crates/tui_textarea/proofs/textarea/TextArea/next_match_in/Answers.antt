@@ -13,9 +13,10 @@ use Rattle.tui_textarea.specs.WholeMatches.{cluster_starts}
 use Rattle.tui_textarea.proofs.FoundPlaces.{match_is_place}
 use Rattle.tui_textarea.proofs.Searches.{target_in_text, search_is}
 use Rattle.tui_textarea.proofs.textarea.TextArea.next_match_in.Goals as goal
+use Rattle.tui_textarea.proofs.textarea.TextArea.next_match_in.Goals.{After-find_match}
 
 -- what the search of all matches finds
-found : (c : goal.After-find_match) → IfOk c.find_match.result
+found : (c : After-find_match) → IfOk c.find_match.result
     (λ place. place ≡ found_start Forward (starts_in c.args.self.now.pattern c.args.document.now.text) c.args.document.now.cursor c.args.match_cursor)
 found c =
     let document = c.args.document.now in
@@ -37,18 +38,18 @@ returns-in-Character-clause-place c =
     target_in_text c.find_match.result (next_match (with_document c.args.self.now document) c.args.match_cursor) c.lines-lines.result.now document.text
     c.lines-lines.ensures.lines (returns-in-Character-clause-found c) c.find_match.ensures.found.within
 
-pub returns-in-Cluster-clause-found : goal.returns-in-Cluster-clause-found
-returns-in-Cluster-clause-found c =
+pub returns-in_ok-starts-in-Cluster-clause-found : goal.returns-in_ok-starts-in-Cluster-clause-found
+returns-in_ok-starts-in-Cluster-clause-found c =
     let now = c.args.self.now in
     let document = c.args.document.now in
     let by : unit.Cluster ≡ now.settings.cursor_unit = sym c.in-Cluster.is ∙ ap (λ (s : State). s.settings.cursor_unit) c.self.view_is in
     let starts =
-    c.as_slice.ensures.value ∙ c.in_ok-starts.ensures.found ∙ ap (cluster_starts c.self.inside.search) c.lines-lines.ensures.lines
+    c.as_slice.ensures.value ∙ c.in_ok-starts-in-Cluster.ensures.found ∙ ap (cluster_starts c.self.inside.search) c.lines-lines.ensures.lines
     ∙ ap (λ (s : State). cluster_starts s.pattern (lines document.text)) c.self.view_is
     ∙ ap (λ (counts : CursorUnit). unit_starts counts now.pattern document.text) by in
     c.found_start.ensures
     ∙ ap (λ (some : List Place). found_start Forward some c.cursor-cursor.result c.args.match_cursor) starts
     ∙ ap (λ (place : Place). found_start Forward (unit_starts now.settings.cursor_unit now.pattern document.text) place c.args.match_cursor) c.cursor-cursor.ensures.value
 
-pub returns-in-Cluster-clause-place : goal.returns-in-Cluster-clause-place
-returns-in-Cluster-clause-place c = match_is_place Forward (with_document c.args.self.now c.args.document.now) c.args.match_cursor
+pub returns-in_ok-starts-in-Cluster-clause-place : goal.returns-in_ok-starts-in-Cluster-clause-place
+returns-in_ok-starts-in-Cluster-clause-place c = match_is_place Forward (with_document c.args.self.now c.args.document.now) c.args.match_cursor
