@@ -24,8 +24,8 @@ returns-in_err-insert_str c whole =
 pub returns-in_err-is_whole : goal.returns-in_err-is_whole
 returns-in_err-is_whole c whole = whole_over c.args.area.now c.insert_str.new.self (covers_after c) whole
 
-pub returns-then-is_whole : goal.returns-then-is_whole
-returns-then-is_whole c whole = whole_over c.args.area.now c.insert_str.new.self (covers_after c) whole
+pub returns-then-not-is_whole : goal.returns-then-not-is_whole
+returns-then-not-is_whole c whole = whole_over c.args.area.now c.insert_str.new.self (covers_after c) whole
 
 pub returns-in_err-ranges : goal.returns-in_err-ranges
 returns-in_err-ranges c whole = whole_over c.args.area.now c.insert_str.new.self (covers_after c) whole
