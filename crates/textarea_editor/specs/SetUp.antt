@@ -1,6 +1,7 @@
 -- The text areas of an editor, as they are set up.
-use Rattle.std.specs.Prelude.{◌≡◌, Bool, true, List, Some}
+use Rattle.std.specs.Prelude.{◌≡◌, Bool, true, List, [], Some}
 use Rattle.textarea_data.specs.declared.cursor.CursorRenderMode.TheVariants.{Hidden}
+use Rattle.textarea_data.specs.declared.cursor.CursorUnit.TheVariants.{Cluster}
 use Rattle.textarea_document.specs.Prelude.{history_forgotten}
 use Rattle.textarea_editor.specs.EventCalls.{wrap_mode}
 use Rattle.textarea_screen.specs.Style.{empty_style, with_modifier}
@@ -23,16 +24,28 @@ selected_style = with_modifier empty_style (record { 0 = 64 })
 abbrev pub with_hidden_cursor : State → State
 with_hidden_cursor area = with_look_set area (record area.drawing.look { cursor_render_mode = Hidden; cursor_line_style = empty_style })
 
+-- the cursor goes by clusters, and is where it was
+abbrev pub by_clusters : State → State
+by_clusters area = record area { settings = record area.settings { cursor_unit = Cluster } }
+
+-- the empty text of a prompt
+abbrev pub new_prompt : State
+new_prompt = with_hidden_cursor (by_clusters (new_state []))
+
+-- nothing was done since the text area was made
+abbrev pub IsNew : State → Type 0
+IsNew area = area ≡ new_state area.document.text
+
 -- a new text that is just shown
 abbrev pub IsShown : State → Type 0
 IsShown area = area ≡ with_hidden_cursor (new_state area.document.text)
 
 -- one undo takes back a run of typing, or all edits of one call, and all undos at most 1,000,000 edits;
--- Tab inserts a tab
+-- Tab inserts a tab; the cursor goes by clusters
 abbrev pub set_up : State → State
 set_up area = with_hidden_cursor (record area {
   document = history_forgotten area.document 1_000_000;
-  settings = record area.settings { undo_coalescing = true; hard_tab_indent = true; undo_grouping = true };
+  settings = record area.settings { undo_coalescing = true; hard_tab_indent = true; undo_grouping = true; cursor_unit = Cluster };
   drawing = record area.drawing { look = record area.drawing.look { search_style = match_style; selection_style = selected_style } };
 })
 

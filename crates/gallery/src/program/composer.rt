@@ -6,7 +6,7 @@
 //!
 //! - An atomic range makes characters a token: the cursor jumps over it, and a deletion takes it
 //!   whole. Ranges move with the text.
-//! - After any inputs each token covers a whole name, never a part of one: this is proved.
+//! - After any inputs each token covers a whole name: this is proved.
 //! - By `set_undo_ranges` an undo brings a deleted mention back, if none was added since.
 //! - Custom highlights don't move with the text, so `draw` sets them again from the ranges. They
 //!   are in bytes, ranges in characters.

@@ -5,6 +5,7 @@
 //! - `input` has the keys of an editor: moves by words and paragraphs, selecting with Shift, undo,
 //!   cut and paste.
 //! - `input` returns whether the text changed, so the mark of a changed text needs no comparison.
+//! - By `set_cursor_unit` a letter with its accents is one step, and deleted as one.
 //! - A wide character has two cells, and the cell after it is empty.
 //! - The status is the title of a block without borders; `set_style` gives the whole row its
 //!   colours.
@@ -13,7 +14,9 @@ ghost use Rattle.gallery.specs.Ends.{EndsByEsc};
 use anyhow::Result;
 use std::alloc::{AllocError, Global};
 use textarea_terminal::input::{Mouse, MouseButton, MouseKind};
-use tui_textarea::{Block, Buffer, Input, Key, Line, Position, Rect, Style, TextArea, WrapMode};
+use tui_textarea::{
+    Block, Buffer, CursorUnit, Input, Key, Line, Position, Rect, Style, TextArea, WrapMode,
+};
 
 const TEXT: &str = "# Notes\n\nA line that is longer than the screen goes on in the next row, \
     and has one number.\n\n- 漢字 and other wide characters\n- a selection from here to there";
@@ -28,6 +31,7 @@ pub struct EditorProgram {
 fn set_up(area: &mut TextArea<'_>) -> Result<(), AllocError> {
     area.set_cursor_line_style(Style::new().on_dark_gray());
     area.set_selection_style(Style::new().black().on_cyan());
+    area.set_cursor_unit(CursorUnit::Cluster);
     area.set_line_number_style(Style::new().dark_gray())?;
     area.set_wrap_mode(WrapMode::Word)
 }

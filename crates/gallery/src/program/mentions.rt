@@ -1,12 +1,16 @@
 //! Mentions: names in a text area that are atomic ranges.
-ghost use Rattle.std.specs.Prelude.{◌≡◌, ◌&&◌, Contains, is_some, not};
+ghost use Rattle.std.specs.Prelude.{◌≡◌, ◌&&◌, Contains, IfOk, drop, encode_utf8_all, is_some, not, string_bytes, take, true};
+ghost use Rattle.std.specs.Str.{chars};
 ghost use Rattle.gallery.specs.Mentions.{AreWhole, names};
+ghost use Rattle.textarea_ranges.specs.Moved.{covered_characters};
+ghost use Rattle.textarea_text.specs.Text.{lines};
 
 use crate::program::byte_of;
 use std::alloc::{AllocError, Global};
+use textarea_text::places::line_of;
 use tui_textarea::input_laws::ranges_cover_as_before;
 use tui_textarea::laws::is_sound;
-use tui_textarea::outcomes::laws::{ranges_cover_no_more, splices_split_no_range};
+use tui_textarea::outcomes::laws::ranges_cover_no_more;
 use tui_textarea::{AtomicRange, AtomicRangeError, Input, Style, TextArea};
 
 /// Returns one of the names, by turns.
@@ -29,7 +33,8 @@ fn takes_whole_names(area: &TextArea<'_>) -> bool
     !area.read_only() && area.max_chars().is_none()
 }
 
-/// Inserts a name at the cursor as a mention, unless it could be cut. All mentions stay whole.
+/// Inserts a name at the cursor as a mention, unless it could be cut, or as plain text if an accent
+/// after it joins it. All mentions stay whole.
 pub fn mention(
     area: &mut TextArea<'_>,
     alloc: Global,
@@ -40,21 +45,52 @@ pub fn mention(
 {
     is_sound(area);
     ranges_cover_no_more();
-    splices_split_no_range();
     if !takes_whole_names(area) {
         return Ok(Ok(()));
     }
     area.insert_str(name)?;
-    let (row, end_col) = area.cursor();
     // A name has a byte for each character.
-    let start_col = end_col.saturating_sub(name.len());
+    let range = before_cursor(area, name.len());
+    let is_whole = covers(area, range, name)?;
+    if !is_whole {
+        return Ok(Ok(()));
+    }
     let mut ranges = Vec::from_slice(alloc, area.atomic_ranges())?;
-    ranges.push(AtomicRange {
-        row,
-        start_col,
-        end_col,
-    })?;
+    ranges.push(range)?;
     area.try_set_atomic_ranges(ranges)
+}
+
+// Returns the range of this number of characters before the cursor.
+fn before_cursor(area: &TextArea<'_>, count: usize) -> AtomicRange {
+    let (row, end_col) = area.cursor();
+    AtomicRange {
+        row,
+        start_col: end_col.saturating_sub(count),
+        end_col,
+    }
+}
+
+// Returns whether a range covers a name.
+fn covers(area: &TextArea<'_>, range: AtomicRange, name: &str) -> Result<bool, AllocError>
+    ensures { IfOk result (λ covers. covers ≡ true →
+        covered_characters (lines area.now.document.text) range ≡ chars name.now) }
+{
+    let lines = area.lines();
+    if range.row >= lines.len() {
+        return Ok(false);
+    }
+    let line = line_of(lines, range.row);
+    let count = range.end_col.saturating_sub(range.start_col);
+    let found = section(area.allocator(), line, range.start_col, count)?;
+    Ok(found.as_str() == name)
+}
+
+// Returns this number of a line's characters from a column on.
+fn section(alloc: Global, line: &str, column: usize, count: usize) -> Result<String, AllocError>
+    ensures { IfOk result (λ section. string_bytes section
+        ≡ encode_utf8_all (take count (drop column (chars line.now)))) }
+{
+    line.chars().skip(column).take(count).collect(alloc)
 }
 
 /// Gives an input to a text area. All mentions stay whole.

@@ -1,18 +1,17 @@
 // The text areas of an editor.
-ghost use Rattle.std.specs.Prelude.{◌≡◌, [], IfOk, OnOk, string_bytes};
+ghost use Rattle.std.specs.Prelude.{◌≡◌, IfOk, OnOk, string_bytes};
 ghost use Rattle.textarea_editor.specs.Draft.{IsSaved};
 ghost use Rattle.textarea_editor.specs.Effects.{IsWritten};
 ghost use Rattle.textarea_editor.specs.EventCalls.{wrap_mode};
-ghost use Rattle.textarea_editor.specs.SetUp.{IsOpened, IsShown, opened, set_up, with_hidden_cursor};
+ghost use Rattle.textarea_editor.specs.SetUp.{IsNew, IsOpened, IsShown, by_clusters, new_prompt, opened, set_up, with_hidden_cursor};
 ghost use Rattle.textarea_text.specs.Text.{text_of};
 ghost use Rattle.tui_textarea.specs.LayoutCalls.{with_wrap_mode};
-ghost use Rattle.tui_textarea.specs.State.{new_state};
 
 use crate::draft::Draft;
 use crate::file_text::{LineEnds, line_end_of, lines_of};
 use crate::help::help_lines;
 use std::alloc::{AllocError, Global};
-use textarea_data::cursor::CursorRenderMode;
+use textarea_data::cursor::{CursorRenderMode, CursorUnit};
 use textarea_screen::screen::{Color, Modifier, Style};
 use textarea_wrap::wrap::WrapMode;
 use tui_textarea::TextArea;
@@ -43,8 +42,10 @@ pub fn opened(alloc: Global, lines: Vec<String>, wraps: bool) -> Result<Draft, A
 
 // Sets up a new text area.
 fn set_up(area: &mut TextArea<'_>, wraps: bool) -> Result<(), AllocError>
+    requires { IsNew area.now }
     ensures { OnOk result (area.new ≡ with_wrap_mode (set_up area.old) (wrap_mode wraps)) }
 {
+    go_by_clusters(area);
     area.set_undo_coalescing(true);
     area.set_undo_grouping(true);
     area.set_max_histories(UNDOS);
@@ -53,6 +54,14 @@ fn set_up(area: &mut TextArea<'_>, wraps: bool) -> Result<(), AllocError>
     area.set_selection_style(Style::default().add_modifier(Modifier::REVERSED));
     hide_cursor(area);
     area.set_wrap_mode(wrap_mode(wraps))
+}
+
+// Lets the cursor of a new text area go by clusters.
+fn go_by_clusters(area: &mut TextArea<'_>)
+    requires { IsNew area.now }
+    ensures { area.new ≡ by_clusters area.old }
+{
+    area.set_cursor_unit(CursorUnit::Cluster);
 }
 
 /// Returns the draft of a file's text, and how its lines end: none is added to the last one.
@@ -84,7 +93,7 @@ pub fn fields(
     alloc: Global,
     is_modal: bool,
 ) -> Result<(TextArea<'static>, TextArea<'static>), AllocError>
-    ensures field { IfOk result (λ made. made.0 ≡ with_hidden_cursor (new_state [])) }
+    ensures field { IfOk result (λ made. made.0 ≡ new_prompt) }
     ensures help { IfOk result (λ made. IsShown made.1) }
 {
     let field = plain_field(alloc)?;
@@ -93,9 +102,10 @@ pub fn fields(
 
 // Returns an empty field, as the prompt has it.
 fn plain_field(alloc: Global) -> Result<TextArea<'static>, AllocError>
-    ensures { IfOk result (λ field. field ≡ with_hidden_cursor (new_state [])) }
+    ensures { IfOk result (λ field. field ≡ new_prompt) }
 {
     let mut field = TextArea::try_default(alloc)?;
+    go_by_clusters(&mut field);
     hide_cursor(&mut field);
     Ok(field)
 }
