@@ -1,4 +1,5 @@
 use Rattle.std.proofs.Common.{◌≡◌, ◌∙◌, ◌++◌, [], ◌∷◌, ℕ, List, ap, refl, subst, sym}
+use Rattle.std.specs.Prelude.{Contains}
 use Rattle.textarea_data.specs.declared.range.AtomicRange.{AtomicRange}
 use Rattle.textarea_document.specs.Covered.{CoversNoMore}
 use Rattle.textarea_calls.specs.declared.call.Call.TheVariants as call
@@ -6,10 +7,11 @@ use Rattle.tui_textarea.specs.Calls.{result_of_call}
 use Rattle.tui_textarea.specs.Ranges.{ranges_accepted}
 use Rattle.gallery.specs.Mentions.{AreWhole, names}
 use Rattle.gallery.proofs.Tokens.{name_characters, whole_if_set, whole_over, whole_with}
+use Rattle.gallery.proofs.program.mentions.mention.Goals.{After-covers}
 use Rattle.gallery.proofs.program.mentions.mention.Goals as goal
 
 -- the name is inserted
-covers_after : (c : goal.After-covers) → CoversNoMore c.args.area.now.document c.insert_str.new.self.document
+covers_after : (c : After-covers) → CoversNoMore c.args.area.now.document c.insert_str.new.self.document
 covers_after c =
     let old = c.args.area.now in
     let made = call.InsertStr c.args.name in
