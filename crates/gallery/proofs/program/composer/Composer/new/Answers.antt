@@ -10,6 +10,7 @@ covered_then : State → List (List ℕ)
 covered_then state = covered (undo_ranges_set state.document true)
 
 pub returns : goal.returns
+unfolding covered_then
 returns c = record {
   whole = whole_none c.set_undo_ranges.new.self
       (ap (λ (state : State). covered state.document) c.set_undo_ranges.ensures
