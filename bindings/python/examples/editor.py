@@ -2,7 +2,7 @@
 python3 examples/editor.py"""
 
 from textarea import (
-    Area, Block, Color, Input, Key, Line, Modifier, Style, TextArea, WrapMode, in_curses,
+    Area, Block, Color, CursorUnit, Input, Key, Line, Modifier, Style, TextArea, WrapMode, in_curses,
 )
 
 TEXT = """# Notes
@@ -17,6 +17,7 @@ def set_up():
     area = TextArea.from_text(TEXT)
     area.cursor_line_style = Style(bg=Color.DARK_GRAY)
     area.selection_style = Style(Color.BLACK, Color.CYAN)
+    area.cursor_unit = CursorUnit.CLUSTER
     area.line_number_style = Style(Color.DARK_GRAY)
     area.wrap_mode = WrapMode.WORD
     return area

@@ -20,6 +20,7 @@ impl Composer {
         let mut area = TextArea::default();
         area.set_block(Block::default().borders(Borders::ALL));
         area.set_cursor_line_style(Style::default());
+        area.set_undo_ranges(true);
         Composer { area }
     }
 

@@ -8,7 +8,7 @@ use screen::{Frame, Program};
 use tui::layout::Rect;
 use tui::style::{Color, Modifier, Style};
 use tui::widgets::Block;
-use tui_textarea::{Input, Key, TextArea, WrapMode};
+use tui_textarea::{CursorUnit, Input, Key, TextArea, WrapMode};
 
 const TEXT: &str = "# Notes\n\nA line that is longer than the screen goes on in the next row, \
     and has one number.\n\n- 漢字 and other wide characters\n- a selection from here to there";
@@ -23,6 +23,7 @@ impl Editor {
         let mut area = TextArea::from_text(TEXT);
         area.set_cursor_line_style(Style::default().bg(Color::DarkGray));
         area.set_selection_style(Style::default().fg(Color::Black).bg(Color::Cyan));
+        area.set_cursor_unit(CursorUnit::Cluster);
         area.set_line_number_style(Style::default().fg(Color::DarkGray));
         area.set_wrap_mode(WrapMode::Word);
         Editor {
