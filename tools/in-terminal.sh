@@ -47,11 +47,12 @@ suspend() {
     [ -z "$child" ] || kill -STOP "$child" 2> /dev/null
     kill -STOP $$
 }
-# The terminal's size may be another one now, and the program draws all again.
+# The terminal's size may be another one now, and the program draws all again. A shell's fg has the program
+# go on too, maybe before the terminal is raw: its read then waits for a line, and is begun again by a stop.
 go_on() {
     printf "$enter"
     take_terminal
-    [ -z "$child" ] || kill -CONT "$child" 2> /dev/null
+    [ -z "$child" ] || { kill -STOP "$child" && kill -CONT "$child"; } 2> /dev/null
     tell_size
 }
 
