@@ -32,7 +32,7 @@ give_terminal_back() {
     stty "$settings"
 }
 restore_terminal() {
-    trap '' INT QUIT TERM HUP USR1 USR2 ALRM PIPE SEGV BUS ABRT TSTP CONT WINCH
+    trap '' INT QUIT TERM HUP USR1 USR2 ALRM PIPE SEGV BUS ABRT ILL TRAP FPE SYS XCPU XFSZ VTALRM PROF TSTP CONT WINCH
     trap - EXIT
     [ -z "$child" ] || kill "$child" 2> /dev/null
     give_terminal_back
@@ -69,7 +69,8 @@ run_in_terminal() {
     errors=${errors:-/dev/null}
     writes=0 child=
     trap restore_terminal EXIT
-    for signal in HUP:129 INT:130 QUIT:131 ABRT:134 BUS:135 USR1:138 SEGV:139 USR2:140 PIPE:141 ALRM:142 TERM:143; do
+    for signal in HUP:129 INT:130 QUIT:131 ILL:132 TRAP:133 ABRT:134 BUS:135 FPE:136 USR1:138 SEGV:139 USR2:140 PIPE:141 ALRM:142 TERM:143 \
+            XCPU:152 XFSZ:153 VTALRM:154 PROF:155 SYS:159; do
         trap "exit ${signal#*:}" "${signal%:*}"
     done
     trap suspend TSTP
