@@ -6,7 +6,7 @@ use anyhow::{Result, bail};
 use std::env;
 use std::io::{Read, Write};
 use std::time::{Duration, Instant};
-use textarea_editor::message::Message;
+use textarea_editor::message::{Message, Trouble};
 use textarea_editor::screen::Colors;
 use textarea_editor::terminal_colors::terminal_colors;
 use textarea_editor::{Arguments, DiskFile, Editor, Effect, Event, Screen, Storage};
@@ -104,17 +104,20 @@ fn open(rt: &HostRuntime, editor: &mut Editor, storage: &mut Storage, name: &str
     }
 }
 
-// Gives the editor the text of a file, which has no name and counts as changed.
+// Gives the editor the text of a file, which has no name and counts as changed, or shows a file that
+// isn't UTF-8.
 fn open_unnamed(rt: &HostRuntime, editor: &mut Editor, name: &str) -> Result<()> {
     let mut file = DiskFile::default();
-    match file.read(rt, name) {
-        Ok(Some(text)) => {
-            editor.recover(text)?;
-            Ok(())
-        }
-        Ok(None) => Ok(()),
-        Err(trouble) => bail!("standard input: not opened: {}", trouble.text()),
-    }
+    let trouble = match file.read(rt, name) {
+        Ok(Some(text)) => return Ok(editor.recover(text)?),
+        Ok(None) => return Ok(()),
+        Err(Trouble::NotText) => match file.viewed(rt, name) {
+            Ok(text) => return Ok(editor.view(text)?),
+            Err(trouble) => trouble,
+        },
+        Err(trouble) => trouble,
+    };
+    bail!("standard input: not opened: {}", trouble.text())
 }
 
 // Takes what the terminal sends, until the editor quits or the terminal is gone.
@@ -194,6 +197,7 @@ fn take(
         }
     }
     if !events.is_empty() {
+        editor.remind();
         show(rt, editor, screen)?;
         storage.note(rt, editor, time);
     }
@@ -222,13 +226,9 @@ fn carry_out(
             Ok(true)
         }
         Effect::Copy(text) => copy(rt, screen, text.as_str()),
-        Effect::Save {
-            name,
-            text,
-            overwrites,
-        } => {
-            let end = storage.save(rt, name.as_str(), text.as_str(), overwrites);
-            Ok(editor.saved(end) != Effect::Quit)
+        Effect::Save(saving) => {
+            let end = storage.save(rt, &saving);
+            Ok(editor.saved(saving, end) != Effect::Quit)
         }
     }
 }

@@ -4,6 +4,7 @@ use Rattle.std.proofs.lemmas.List.{length-map}
 use Rattle.std.specs.Option.{IfSome}
 use Rattle.std.specs.declared.alloc.Global.{Global}
 use Rattle.textarea_calls.specs.declared.call.Call.{Call}
+use Rattle.textarea_data.specs.declared.cursor.CursorMove.{CursorMove}
 use Rattle.textarea_editor.proofs.Drafts.{fails_before, fails_then, makes_none, makes_then}
 use Rattle.textarea_editor.specs.Draft.{FailsIn, FailsInSome, Makes, MakesSome}
 use Rattle.textarea_editor.specs.EventCalls.{IsClick, IsWholeClick, ends_calls, is_selecting, selection_calls, to_calls}
@@ -17,52 +18,52 @@ use Rattle.tui_textarea.specs.Hit.{IsHitTest}
 use Rattle.tui_textarea.specs.State.{State}
 
 -- the calls of a click on this draft
-abbrev pub Clicks : Bool → Bool → Draft → ℕ → ℕ → List Call → Type 0
-Clicks selects below old column row = IsClick selects below (is_selecting old.area) (widget_of old.area) column row
+abbrev pub Clicks : Bool → Option CursorMove → Draft → ℕ → ℕ → List Call → Type 0
+Clicks selects further old column row = IsClick selects further (is_selecting old.area) (widget_of old.area) column row
 
 hit_of : (area read : State) (column row : ℕ) (found wanted : Option Place) → read ≡ area → found ≡ wanted → IsHitTest (widget_of read) column row found → IsHitTest (widget_of area) column row wanted
 hit_of area read column row found wanted same is hit =
     subst (λ (o : Option Place). IsHitTest (widget_of area) column row o) is (subst (λ (s : State). IsHitTest (widget_of s) column row found) same hit)
 
 -- the cell shows nothing
-pub clicks_none : (selects below : Bool) (old : Draft) (read : State) (column row : ℕ) (found : Option Place) → read ≡ old.area → found ≡ None
-    → IsHitTest (widget_of read) column row found → MakesSome (Clicks selects below old column row) old old
-clicks_none selects below old read column row found same none hit =
-    let asked : Clicks selects below old column row [] = record { found = None; found_is = hit_of old.area read column row found None same none hit; calls_are = refl } in
+pub clicks_none : (selects : Bool) (further : Option CursorMove) (old : Draft) (read : State) (column row : ℕ) (found : Option Place) → read ≡ old.area → found ≡ None
+    → IsHitTest (widget_of read) column row found → MakesSome (Clicks selects further old column row) old old
+clicks_none selects further old read column row found same none hit =
+    let asked : Clicks selects further old column row [] = record { found = None; found_is = hit_of old.area read column row found None same none hit; calls_are = refl } in
     record { calls = []; asked = asked; makes = makes_none old }
 
-asked_of : (selects below : Bool) (old : Draft) (read : State) (column row : ℕ) (found : Option Place) (place : Place) → read ≡ old.area → found ≡ Some place
-    → IsHitTest (widget_of read) column row found → Clicks selects below old column row (selection_calls selects (is_selecting old.area) ++ to_calls below place)
-asked_of selects below old read column row found place same is hit = record {
+asked_of : (selects : Bool) (further : Option CursorMove) (old : Draft) (read : State) (column row : ℕ) (found : Option Place) (place : Place) → read ≡ old.area → found ≡ Some place
+    → IsHitTest (widget_of read) column row found → Clicks selects further old column row (selection_calls selects (is_selecting old.area) ++ to_calls further place)
+asked_of selects further old read column row found place same is hit = record {
   found = Some place;
   found_is = hit_of old.area read column row found (Some place) same is hit;
   calls_are = refl;
 }
 
-pub clicks_made : (selects below : Bool) (old mid new : Draft) (read : State) (column row : ℕ) (found : Option Place) (place : Place) → read ≡ old.area → found ≡ Some place
-    → IsHitTest (widget_of read) column row found → Makes old (selection_calls selects (is_selecting old.area)) mid → Makes mid (to_calls below place) new
-    → MakesSome (Clicks selects below old column row) old new
-clicks_made selects below old mid new read column row found place same is hit first later = record {
-  calls = selection_calls selects (is_selecting old.area) ++ to_calls below place;
-  asked = asked_of selects below old read column row found place same is hit;
-  makes = makes_then old mid new (selection_calls selects (is_selecting old.area)) (to_calls below place) first later;
+pub clicks_made : (selects : Bool) (further : Option CursorMove) (old mid new : Draft) (read : State) (column row : ℕ) (found : Option Place) (place : Place) → read ≡ old.area → found ≡ Some place
+    → IsHitTest (widget_of read) column row found → Makes old (selection_calls selects (is_selecting old.area)) mid → Makes mid (to_calls further place) new
+    → MakesSome (Clicks selects further old column row) old new
+clicks_made selects further old mid new read column row found place same is hit first later = record {
+  calls = selection_calls selects (is_selecting old.area) ++ to_calls further place;
+  asked = asked_of selects further old read column row found place same is hit;
+  makes = makes_then old mid new (selection_calls selects (is_selecting old.area)) (to_calls further place) first later;
 }
 
-pub clicks_fail_first : (selects below : Bool) (old new : Draft) (read : State) (column row : ℕ) (found : Option Place) (place : Place) → read ≡ old.area → found ≡ Some place
-    → IsHitTest (widget_of read) column row found → FailsIn old (selection_calls selects (is_selecting old.area)) new → FailsInSome (Clicks selects below old column row) old new
-clicks_fail_first selects below old new read column row found place same is hit fails = inr (record {
-  calls = selection_calls selects (is_selecting old.area) ++ to_calls below place;
-  asked = asked_of selects below old read column row found place same is hit;
-  fails = fails_before old new (selection_calls selects (is_selecting old.area)) (to_calls below place) fails;
+pub clicks_fail_first : (selects : Bool) (further : Option CursorMove) (old new : Draft) (read : State) (column row : ℕ) (found : Option Place) (place : Place) → read ≡ old.area → found ≡ Some place
+    → IsHitTest (widget_of read) column row found → FailsIn old (selection_calls selects (is_selecting old.area)) new → FailsInSome (Clicks selects further old column row) old new
+clicks_fail_first selects further old new read column row found place same is hit fails = inr (record {
+  calls = selection_calls selects (is_selecting old.area) ++ to_calls further place;
+  asked = asked_of selects further old read column row found place same is hit;
+  fails = fails_before old new (selection_calls selects (is_selecting old.area)) (to_calls further place) fails;
 })
 
-pub clicks_fail_then : (selects below : Bool) (old mid new : Draft) (read : State) (column row : ℕ) (found : Option Place) (place : Place) → read ≡ old.area → found ≡ Some place
-    → IsHitTest (widget_of read) column row found → Makes old (selection_calls selects (is_selecting old.area)) mid → FailsIn mid (to_calls below place) new
-    → FailsInSome (Clicks selects below old column row) old new
-clicks_fail_then selects below old mid new read column row found place same is hit first fails = inr (record {
-  calls = selection_calls selects (is_selecting old.area) ++ to_calls below place;
-  asked = asked_of selects below old read column row found place same is hit;
-  fails = fails_then old mid new (selection_calls selects (is_selecting old.area)) (to_calls below place) first fails;
+pub clicks_fail_then : (selects : Bool) (further : Option CursorMove) (old mid new : Draft) (read : State) (column row : ℕ) (found : Option Place) (place : Place) → read ≡ old.area → found ≡ Some place
+    → IsHitTest (widget_of read) column row found → Makes old (selection_calls selects (is_selecting old.area)) mid → FailsIn mid (to_calls further place) new
+    → FailsInSome (Clicks selects further old column row) old new
+clicks_fail_then selects further old mid new read column row found place same is hit first fails = inr (record {
+  calls = selection_calls selects (is_selecting old.area) ++ to_calls further place;
+  asked = asked_of selects further old read column row found place same is hit;
+  fails = fails_then old mid new (selection_calls selects (is_selecting old.area)) (to_calls further place) first fails;
 })
 
 -- ---- clicks that select a word or a line

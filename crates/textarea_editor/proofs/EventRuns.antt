@@ -1,19 +1,26 @@
 -- Runs of events.
-use Rattle.std.proofs.Common.{◌≡◌, ◌≢◌, ◌⊎◌, false, true, List, [], ◌∷◌, ◌++◌, inl, inr, refl, subst, sym}
+use Rattle.std.proofs.Common.{◌≡◌, ◌≢◌, ◌⊎◌, ◌∙◌, ℕ, false, true, List, [], ◌∷◌, ◌++◌, ap, inl, inr, refl, subst, sym}
 use Rattle.std.specs.declared.time.Duration.{Duration}
 use Rattle.textarea_calls.specs.declared.call.Call.{Call}
 use Rattle.textarea_calls.specs.declared.call.Call.TheVariants.{SetNow}
 use Rattle.textarea_editor.proofs.Drafts.{honest_same, honest_then, makes_none, makes_then}
 use Rattle.textarea_editor.proofs.Saved.{saved_is_unchanged, unchanged_is_saved, unsaved_is_changed}
-use Rattle.textarea_editor.specs.Draft.{FailsIn, FailsInAsked, HasCopy, IsHonest, IsSaved, IsUnsaved, Makes, MakesSome}
+use Rattle.textarea_editor.specs.Draft.{FailsIn, FailsInAsked, HasCopy, IsHonest, IsSaved, IsSavedFrom, IsUnsaved, Makes, MakesSome}
 use Rattle.textarea_editor.specs.declared.draft.Draft.{Draft}
 use Rattle.textarea_editor.specs.Editor.{AsksToSave, MayQuit}
+use Rattle.textarea_editor.specs.Effects.{IsWritten, text_of_saving}
+use Rattle.textarea_editor.specs.FileText.{file_bytes}
 use Rattle.textarea_editor.specs.Steps.{AreSteps, FailsAt, IsStep, IsTimed, MakesCallsOf, Moment, NoneFails, Succeeds}
 use Rattle.textarea_editor.specs.declared.editor.Editor.{Editor}
 use Rattle.textarea_editor.specs.declared.effect.Effect.{Effect}
-use Rattle.textarea_editor.specs.declared.effect.Effect.TheVariants.{Quit}
+use Rattle.textarea_editor.specs.declared.effect.Effect.TheVariants.{Quit, Save}
+use Rattle.textarea_editor.specs.declared.effect.SaveRequest.{SaveRequest}
+use Rattle.textarea_editor.specs.declared.file_text.LineEnds.{LineEnds}
 use Rattle.textarea_editor.specs.declared.message.Message.TheVariants.{Memory}
 use Rattle.textarea_terminal.specs.declared.input.event.Event.{Event}
+use Rattle.textarea_text.specs.Text.{lines}
+use Rattle.tui_textarea.specs.Grouping.{typing_ended}
+use Rattle.tui_textarea.specs.State.{State}
 
 -- ---- the text after events
 
@@ -21,7 +28,7 @@ failed_honest : (old new : Draft) (first : List Call) (IsAsked : List Call → T
 failed_honest old new first IsAsked (inl early) = early.honest
 failed_honest old new first IsAsked (inr fails) = fails.fails.honest
 
-step_honest : (old new : Editor) (now : Duration) (event : Event) (effect : Effect) → (Succeeds old now event effect new ⊎ FailsAt old now event effect new) → IsHonest old.draft new.draft
+pub step_honest : (old new : Editor) (now : Duration) (event : Event) (effect : Effect) → (Succeeds old now event effect new ⊎ FailsAt old now event effect new) → IsHonest old.draft new.draft
 step_honest old new now event effect (inl made) = made.makes.makes.honest
 step_honest old new now event effect (inr failed) = failed_honest old.draft new.draft (SetNow now ∷ []) (IsTimed old now event) failed.fails
 
@@ -72,3 +79,19 @@ run_made old new (this ∷ later) steps none =
       are = (first.calls, rest.calls, first.asked, rest.are, refl);
       makes = makes_then old.draft this.after.draft new.draft first.calls rest.calls first.makes rest.makes;
     }
+
+-- ---- a save
+
+-- a text that was written has the same bytes after it was saved
+pub same_written : (old new : Draft) (end new_end : LineEnds) (bytes : List ℕ) → new.area ≡ typing_ended old.area → new_end ≡ end → IsWritten old.area end bytes → IsWritten new.area new_end bytes
+same_written old new end new_end bytes same ends written = record {
+  strings = written.strings;
+  of_text = written.of_text ∙ sym (ap (λ (s : State). lines s.document.text) same);
+  joined = subst (λ (e : LineEnds). bytes ≡ file_bytes e written.strings) (sym ends) written.joined;
+}
+
+-- the text that counts as saved is that of the effect that asked for the save
+pub saved_as_asked : (old asked saved : Editor) (now : Duration) (event : Event) (saving : SaveRequest) → IsStep old now event (Save saving) asked
+    → IsSavedFrom asked.draft saved.draft → saved.line_end ≡ asked.line_end → IsWritten saved.draft.area saved.line_end (text_of_saving saving)
+saved_as_asked old asked saved now event saving step from end =
+    same_written asked.draft saved.draft asked.line_end saved.line_end (text_of_saving saving) from.area end step.carries

@@ -1,8 +1,10 @@
 mod StatusRows
 mod Drafts
 mod EventRuns
+mod SaveRuns
 mod FileLines
 mod Texts
+mod HelpLines
 mod Times
 mod Clicks
 mod Runs
@@ -11,3 +13,7 @@ mod Searches
 mod Replacing
 mod Indents
 mod Frames
+mod ReadOnlyTexts
+mod Views
+mod ControlCounts
+mod DiskLemmas

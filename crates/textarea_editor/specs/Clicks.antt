@@ -3,7 +3,7 @@ use Rattle.std.specs.Prelude.{ℕ, ◌-◌, ◌==◌, ◌&&◌, nat_le, nat_lt, 
 use Rattle.std.specs.Duration.{as_nanos}
 use Rattle.std.specs.declared.time.Duration.{Duration}
 use Rattle.textarea_editor.specs.declared.click.Click.{Click}
-use Rattle.textarea_editor.specs.declared.click.Click.TheVariants.{Below, To, Whole}
+use Rattle.textarea_editor.specs.declared.click.Click.TheVariants.{Above, Below, To, Whole}
 use Rattle.textarea_editor.specs.declared.click.Clicks.{Clicks}
 use Rattle.textarea_editor.specs.declared.click.Clicks.TheVariants.{Double, Single, Triple}
 use Rattle.textarea_editor.specs.declared.click.Press.{Press}
@@ -45,11 +45,16 @@ pressed_click Single shift = To shift
 pressed_click Double shift = Whole Word
 pressed_click Triple shift = Whole Line
 
--- what the mouse does at a cell of the text; a drag selects up to there
-abbrev pub click_by : MouseKind → Bool → Clicks → Option Click
-click_by (mouse_kind.Press Left) shift clicks = Some (pressed_click clicks shift)
-click_by (mouse_kind.Drag Left) shift clicks = Some (To true)
-click_by other shift clicks = None
+-- a drag selects up to its row; in the first row, if the press was below it, on to the row above
+abbrev pub dragged_click : Option Press → ℕ → Click
+dragged_click None row = To true
+dragged_click (Some last) row = if (row == 0) && nat_lt 0 last.row then Above else To true
+
+-- what the mouse does at a cell of the text
+abbrev pub click_by : MouseKind → Option Press → Duration → Mouse → Option Click
+click_by (mouse_kind.Press Left) last now mouse = Some (pressed_click (clicks_of last now mouse) mouse.shift)
+click_by (mouse_kind.Drag Left) last now mouse = Some (dragged_click last mouse.row)
+click_by other last now mouse = None
 
 -- below a text of this number of rows a drag goes on with the selection, if the press was in the text
 abbrev pub click_below : MouseKind → Option Press → ℕ → Option Click

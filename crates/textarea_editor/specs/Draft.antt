@@ -8,6 +8,7 @@ use Rattle.textarea_data.specs.declared.measure.TextAreaMeasure.{TextAreaMeasure
 use Rattle.textarea_editor.specs.declared.draft.Draft.{Draft}
 use Rattle.textarea_modal.specs.Runs.{AllMade, RunsOutAt}
 use Rattle.textarea_text.specs.Text.{lines, lines_of}
+use Rattle.tui_textarea.specs.CallResults.{CallResult, Flag}
 use Rattle.tui_textarea.specs.Grouping.{typing_ended}
 use Rattle.tui_textarea.specs.Measure.{IsMeasured}
 use Rattle.tui_textarea.specs.State.{State}
@@ -21,6 +22,11 @@ is_made other = true
 -- the call draws nothing
 abbrev pub IsUndrawn : Call → Type 0
 IsUndrawn call = draws call ≡ false
+
+-- the result is another one than that nothing was found
+abbrev pub has_found : CallResult → Bool
+has_found (Flag found) = found
+has_found other = true
 
 -- a call without the address of the text or input that it borrows
 abbrev pub plain_call : Call → Call

@@ -1,6 +1,8 @@
 -- What clauses see of an editor.
 use Rattle.textarea_editor.specs.declared.draft.Draft.{Draft}
-use Rattle.std.specs.Prelude.{◌≡◌, ◌⊎◌, Bool, false, ℕ}
+use Rattle.std.specs.Prelude.{◌≡◌, ◌⊎◌, Bool, true, false, ℕ, List, Option, String, is_some}
+use Rattle.std.specs.declared.alloc.Global.{Global}
+use Rattle.textarea_editor.specs.Effects.{optional_bytes}
 use Rattle.textarea_editor.specs.declared.controls.Controls.{Controls}
 use Rattle.textarea_editor.specs.declared.editor.Editor.{Editor}
 use Rattle.textarea_editor.specs.declared.file_text.LineEnds.{LineEnds}
@@ -35,6 +37,15 @@ field_of editor = editor.field
 abbrev pub message_of : Editor → Message
 message_of editor = editor.message
 
+-- the name of the file, if it has one
+abbrev pub file_name_of : Editor → Option (String Global)
+file_name_of editor = editor.name
+
+-- the file has this name
+pub record IsNamed (bytes : List ℕ) (name : Option (String Global)) : Type 0 where
+  pub some : is_some name ≡ true
+  pub bytes_are : optional_bytes name ≡ bytes
+
 -- long lines are wrapped
 abbrev pub wraps_of : Editor → Bool
 wraps_of editor = editor.controls.wraps
@@ -43,16 +54,43 @@ wraps_of editor = editor.controls.wraps
 abbrev pub numbers_of : Editor → Bool
 numbers_of editor = editor.controls.numbers
 
--- Enter in the text keeps the indent
-abbrev pub keeps_indent_of : Editor → Bool
-keeps_indent_of editor = editor.controls.keeps_indent
-
 -- the size of the screen
 abbrev pub screen_columns_of : Editor → ℕ
 screen_columns_of editor = editor.columns
 
 abbrev pub screen_rows_of : Editor → ℕ
 screen_rows_of editor = editor.rows
+
+-- ---- changes
+
+-- the same but for the text
+abbrev pub with_draft : Editor → Draft → Editor
+with_draft editor draft = record editor { draft = draft }
+
+-- the same but for how the lines end
+abbrev pub with_ends : Editor → LineEnds → Editor
+with_ends editor ends = record editor { line_end = ends }
+
+-- the same but for what decides what the next event does
+abbrev pub with_controls : Editor → Controls → Editor
+with_controls editor controls = record editor { controls = controls }
+
+-- the same but for the message
+abbrev pub with_message : Editor → Message → Editor
+with_message editor message = record editor { message = message }
+
+-- all is as before but the text, how its lines end, the name, the message and what decides the next event
+pub record KeepsRest (old new : Editor) : Type 0 where
+  pub former_name : new.former_name ≡ old.former_name
+  pub searched : new.searched ≡ old.searched
+  pub replacement : new.replacement ≡ old.replacement
+  pub replaced : new.replaced ≡ old.replaced
+  pub field : new.field ≡ old.field
+  pub help : new.help ≡ old.help
+  pub columns : new.columns ≡ old.columns
+  pub rows : new.rows ≡ old.rows
+
+-- ---- what is shown and asked
 
 -- the cells of the screen
 pub record IsScreenArea (editor : Editor) (area : Rect) : Type 0 where

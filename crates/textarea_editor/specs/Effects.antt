@@ -8,6 +8,7 @@ use Rattle.textarea_editor.specs.declared.effect.Effect.TheVariants as does
 use Rattle.textarea_editor.specs.declared.effect.Effect.TheVariants.{Copy, Nothing, Quit, Save}
 use Rattle.textarea_editor.specs.declared.effect.SaveEnd.{SaveEnd}
 use Rattle.textarea_editor.specs.declared.effect.SaveEnd.TheVariants as save_end
+use Rattle.textarea_editor.specs.declared.effect.SaveRequest.{SaveRequest}
 use Rattle.textarea_editor.specs.declared.file_text.LineEnds.{LineEnds}
 use Rattle.textarea_editor.specs.declared.focus.Question.{Question}
 use Rattle.textarea_editor.specs.declared.focus.Question.TheVariants.{Discard, Overwrite, Recover, SaveFirst}
@@ -30,6 +31,16 @@ pub record IsWritten (state : State) (ends : LineEnds) (bytes : List ℕ) : Type
   pub of_text : lines_of strings ≡ lines state.document.text
   pub joined : bytes ≡ file_bytes ends strings
 
+-- the text that a save gives the file
+abbrev pub text_of_saving : SaveRequest → List ℕ
+text_of_saving saving = string_bytes saving.text
+
+-- a save of this text under this name, which overwrites a changed file or not
+pub record IsSavingOf (state : State) (ends : LineEnds) (name : List ℕ) (overwrites : Bool) (saving : SaveRequest) : Type 0 where
+  pub named : string_bytes saving.name ≡ name
+  pub overwriting : saving.overwrites ≡ overwrites
+  pub written : IsWritten state ends (text_of_saving saving)
+
 -- the bytes of a text, if there is one
 abbrev pub optional_bytes : Option (String Global) → List ℕ
 optional_bytes None = []
@@ -37,7 +48,7 @@ optional_bytes (Some text) = string_bytes text
 
 -- the program saves the file of this name, and overwrites a changed one or not; without a name it does nothing yet
 abbrev pub IsSaveAsked : Bool → List ℕ → Bool → Effect → Type 0
-IsSaveAsked true name overwrites (Save asked text asks) = (string_bytes asked ≡ name) × (asks ≡ overwrites)
+IsSaveAsked true name overwrites (Save saving) = (string_bytes saving.name ≡ name) × (saving.overwrites ≡ overwrites)
 IsSaveAsked true name overwrites effect = ⊥
 IsSaveAsked false name overwrites effect = effect ≡ Nothing
 
@@ -55,7 +66,7 @@ IsAnswered question answer named name effect = effect ≡ Nothing
 -- ends only if it may
 abbrev pub Carries : Type 0 → State → LineEnds → Effect → Type 0
 Carries MayQuit state ends Nothing = Unit {0}
-Carries MayQuit state ends (Save name text overwrites) = IsWritten state ends (string_bytes text)
+Carries MayQuit state ends (Save saving) = IsWritten state ends (text_of_saving saving)
 Carries MayQuit state ends (Copy text) = chars (string_bytes text) ≡ fragment_text state.yank
 Carries MayQuit state ends does.Recover = Unit {0}
 Carries MayQuit state ends does.Discard = Unit {0}

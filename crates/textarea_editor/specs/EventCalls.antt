@@ -7,6 +7,7 @@ use Rattle.std.specs.declared.alloc.Global.{Global}
 use Rattle.std.specs.declared.time.Duration.{Duration}
 use Rattle.textarea_calls.specs.declared.call.Call.{Call}
 use Rattle.textarea_calls.specs.declared.call.Call.TheVariants as call
+use Rattle.textarea_data.specs.declared.cursor.CursorMove.{CursorMove}
 use Rattle.textarea_data.specs.declared.cursor.CursorMove.TheVariants as move
 use Rattle.textarea_data.specs.declared.input.Input.{Input}
 use Rattle.textarea_data.specs.declared.scroll.Scrolling.TheVariants as scrolling
@@ -14,10 +15,11 @@ use Rattle.textarea_data.specs.declared.measure.TextAreaMeasure.{TextAreaMeasure
 use Rattle.textarea_data.specs.declared.input.Key.{Key}
 use Rattle.textarea_data.specs.declared.input.Key.TheVariants.{Char, End, Esc, F, Home, MouseScrollDown, MouseScrollUp, Tab}
 use Rattle.textarea_document.specs.DocumentState.{DocumentState}
-use Rattle.textarea_editor.specs.Clicks.{click_below, click_by, clicks_of}
+use Rattle.textarea_editor.specs.Clicks.{click_below, click_by}
 use Rattle.textarea_editor.specs.Effects.{optional_bytes}
 use Rattle.textarea_editor.specs.Extents.{IsExtent}
 use Rattle.textarea_editor.specs.Indents.{keeps_indent, line_break}
+use Rattle.textarea_editor.specs.KeyTable.{key_table}
 use Rattle.textarea_editor.specs.LineNumber.{IsLineNumber, row_of_line}
 use Rattle.textarea_editor.specs.Pages.{input_calls}
 use Rattle.textarea_editor.specs.Patterns.{borrowed, first_line, search_call, toggled}
@@ -39,7 +41,6 @@ use Rattle.textarea_editor.specs.declared.focus.PromptKey.TheVariants as prompt
 use Rattle.textarea_editor.specs.declared.keys.Binding.{Binding}
 use Rattle.textarea_editor.specs.declared.keys.KeyCommand.{KeyCommand}
 use Rattle.textarea_editor.specs.declared.keys.KeyCommand.TheVariants as command
-use Rattle.textarea_editor.specs.declared.keys.TheConstants.{BINDINGS}
 use Rattle.textarea_editor.specs.declared.replace_keys.ReplaceKey.{ReplaceKey}
 use Rattle.textarea_editor.specs.declared.replace_keys.ReplaceKey.TheVariants as replace
 use Rattle.textarea_editor.specs.declared.search.SearchOptions.{SearchOptions}
@@ -92,8 +93,8 @@ binds binding input is_modal =
 
 -- the command of a row of the table that binds the input, if there is one
 abbrev pub IsBoundCommand : Input → Bool → Option KeyCommand → Type 0
-IsBoundCommand input is_modal None = All (λ binding. binds binding input is_modal ≡ false) BINDINGS
-IsBoundCommand input is_modal (Some found) = (binding : Binding) × Contains BINDINGS binding × (binds binding input is_modal ≡ true) × (binding.command ≡ found)
+IsBoundCommand input is_modal None = All (λ binding. binds binding input is_modal ≡ false) key_table
+IsBoundCommand input is_modal (Some found) = (binding : Binding) × Contains key_table binding × (binds binding input is_modal ≡ true) × (binding.command ≡ found)
 
 -- how lines are wrapped, if long ones are or not
 abbrev pub wrap_mode : Bool → WrapMode
@@ -308,7 +309,7 @@ IsPaste other editor text calls = calls ≡ []
 -- what the mouse does after the last press, if the text has the focus: in a row of the text, or below
 -- it in the status row
 abbrev pub click_of : Focus → ℕ → Option Press → Duration → Mouse → Option Click
-click_of focus.Text rows last now mouse = if nat_lt mouse.row (rows - 1) then click_by mouse.kind mouse.shift (clicks_of last now mouse) else click_below mouse.kind last (rows - 1)
+click_of focus.Text rows last now mouse = if nat_lt mouse.row (rows - 1) then click_by mouse.kind last now mouse else click_below mouse.kind last (rows - 1)
 click_of other rows last now mouse = None
 
 -- the row of the text that is the nearest one to a row of the screen, which has this number of rows
@@ -321,21 +322,21 @@ selection_calls true true = []
 selection_calls true false = call.StartSelection ∷ []
 selection_calls false selecting = call.CancelSelection ∷ []
 
--- to a position, or to the visual row below it
-abbrev pub to_calls : Bool → Place → List Call
-to_calls false place = call.GoTo place ∷ []
-to_calls true place = call.GoTo place ∷ call.Move move.Down ∷ []
+-- to a position, or on to the visual row above or below it
+abbrev pub to_calls : Option CursorMove → Place → List Call
+to_calls None place = call.GoTo place ∷ []
+to_calls (Some further) place = call.GoTo place ∷ call.Move further ∷ []
 
--- to the position that a cell shows, or to the row below it, if it shows one
-abbrev pub click_calls : Bool → Bool → Bool → Option Place → List Call
-click_calls selects below selecting None = []
-click_calls selects below selecting (Some place) = selection_calls selects selecting ++ to_calls below place
+-- to the position that a cell shows, or on to the row above or below it, if it shows one
+abbrev pub click_calls : Bool → Option CursorMove → Bool → Option Place → List Call
+click_calls selects further selecting None = []
+click_calls selects further selecting (Some place) = selection_calls selects selecting ++ to_calls further place
 
 -- a click at a column and row
-pub record IsClick (selects below selecting : Bool) (widget : WidgetState) (column row : ℕ) (calls : List Call) : Type 0 where
+pub record IsClick (selects : Bool) (further : Option CursorMove) (selecting : Bool) (widget : WidgetState) (column row : ℕ) (calls : List Call) : Type 0 where
   pub found : Option Place
   pub found_is : IsHitTest widget column row found
-  pub calls_are : calls ≡ click_calls selects below selecting found
+  pub calls_are : calls ≡ click_calls selects further selecting found
 
 -- from one position to another, and all between is selected
 abbrev pub ends_calls : Option (Place × Place) → List Call
@@ -358,9 +359,10 @@ pub record IsWholeClick (extent : Extent) (widget : WidgetState) (column row : �
 -- what a click does at a column and row
 abbrev pub IsMouse : Option Click → Bool → WidgetState → ℕ → ℕ → List Call → Type 0
 IsMouse None selecting widget column row calls = calls ≡ []
-IsMouse (Some (click.To selects)) selecting widget column row calls = IsClick selects false selecting widget column row calls
+IsMouse (Some (click.To selects)) selecting widget column row calls = IsClick selects None selecting widget column row calls
 IsMouse (Some (click.Whole extent)) selecting widget column row calls = IsWholeClick extent widget column row calls
-IsMouse (Some click.Below) selecting widget column row calls = IsClick true true selecting widget column row calls
+IsMouse (Some click.Above) selecting widget column row calls = IsClick true (Some move.Up) selecting widget column row calls
+IsMouse (Some click.Below) selecting widget column row calls = IsClick true (Some move.Down) selecting widget column row calls
 
 -- ---- events
 

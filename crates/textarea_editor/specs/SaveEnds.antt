@@ -13,24 +13,12 @@ use Rattle.textarea_editor.specs.declared.focus.Focus.TheVariants as focus
 use Rattle.textarea_editor.specs.declared.focus.Question.TheVariants.{Overwrite}
 use Rattle.textarea_editor.specs.declared.message.Message.{Message}
 use Rattle.textarea_editor.specs.declared.message.Message.TheVariants as message
-use Rattle.textarea_editor.specs.declared.message.Trouble.{Trouble}
-use Rattle.textarea_editor.specs.declared.message.Trouble.TheVariants as trouble
 use Rattle.textarea_text.specs.Place.{Place}
 
--- whether the file may be saved under another name
-abbrev pub asks_for_name : Trouble → Bool
-asks_for_name trouble.DiskFull = false
-asks_for_name trouble.Memory = false
-asks_for_name _ = true
-
--- a failed save doesn't end the program; the name is asked for if another one may help
-abbrev pub after_failed_save : Bool → Controls → Place → Controls
-after_failed_save true controls cursor = prompt_opened (record controls { ends_when_saved = false }) cursor asks.Name
-after_failed_save false controls cursor = record controls { ends_when_saved = false }
-
--- where memory runs out for the name, the text has the focus as before
-pub record IsAfterFailure (failed : Trouble) (controls : Controls) (cursor : Place) (new : Controls) : Type 0 where
-  pub led : (new ≡ after_failed_save (asks_for_name failed) controls cursor) ⊎ (new ≡ after_failed_save false controls cursor)
+-- a failed save doesn't end the program, and another name is asked for; where memory runs out for that, the text has the focus as before
+pub record IsAfterFailure (controls : Controls) (cursor : Place) (new : Controls) : Type 0 where
+  pub led :
+      (new ≡ prompt_opened (record controls { ends_when_saved = false }) cursor asks.Name) ⊎ (new ≡ record controls { ends_when_saved = false })
 
 abbrev pub IsAfterSave : SaveEnd → Controls → Place → Controls → Type 0
 IsAfterSave ended.Saved controls cursor new = new ≡ controls
@@ -38,7 +26,7 @@ IsAfterSave ended.SavedAnew controls cursor new = new ≡ controls
 IsAfterSave ended.Unsynced controls cursor new = new ≡ record controls { ends_when_saved = false }
 IsAfterSave ended.ChangedOnDisk controls cursor new = new ≡ with_focus controls (focus.Question Overwrite)
 IsAfterSave ended.Exists controls cursor new = new ≡ with_focus controls (focus.Question Overwrite)
-IsAfterSave (ended.Failed failed) controls cursor new = IsAfterFailure failed controls cursor new
+IsAfterSave (ended.Failed failed) controls cursor new = IsAfterFailure controls cursor new
 
 -- the message of the status row; that of a question says which file it is about
 abbrev pub message_after : SaveEnd → Message

@@ -9,6 +9,9 @@ use Rattle.textarea_editor.specs.Editor.{MayQuit}
 use Rattle.textarea_editor.specs.Effects.{Carries}
 use Rattle.textarea_editor.specs.EventCalls.{IsEvent, is_selecting}
 use Rattle.textarea_editor.specs.EventEffects.{IsEventEffect}
+use Rattle.textarea_editor.specs.Names.{KeepsNames, NamesByEvent, names_of}
+use Rattle.textarea_editor.specs.Sizes.{KeepsShown, ShownByEvent, shown_by}
+use Rattle.textarea_editor.specs.declared.draft.Draft.{Draft}
 use Rattle.textarea_editor.specs.declared.editor.Editor.{Editor}
 use Rattle.textarea_editor.specs.declared.effect.Effect.{Effect}
 use Rattle.textarea_editor.specs.declared.effect.Effect.TheVariants.{Nothing}
@@ -22,17 +25,25 @@ pub record IsTimed (old : Editor) (now : Duration) (event : Event) (calls : List
   pub asked : IsEvent old old.draft.area now event later
   pub calls_are : calls ≡ SetNow now ∷ later
 
--- the calls of an event were made, then the next event is for what the table says, and the program does what the table says
+-- the calls of an event were made, and what decides the next event, what the program does, the file's name, the size
+-- and the help are as the tables say
 pub record Succeeds (old : Editor) (now : Duration) (event : Event) (effect : Effect) (new : Editor) : Type 0 where
   pub makes : MakesSome (IsTimed old now event) old.draft new.draft
   pub controls : IsAfterEvent old.controls (is_some old.name) new.draft.is_changed old.draft.area.document.cursor (match_count old.draft.area) old.field now event new.controls
   pub effect_is : IsEventEffect old.controls old.name new.draft.is_changed (is_selecting old.draft.area) old.field event effect
+  pub names : NamesByEvent old.controls.focus event old.field (names_of old) (names_of new)
+  pub shown : ShownByEvent old.controls.focus event (shown_by old) (shown_by new)
 
--- memory ran out in the calls of an event, or after the first before the others were known: the
--- status row shows it, and the program does nothing
+-- memory ran out in the calls of an event, or after the first before the others were known
+abbrev pub FailsTimed : Editor → Duration → Event → Draft → Type 0
+FailsTimed old now event draft = FailsIn old.draft (SetNow now ∷ []) draft ⊎ FailsInAsked (IsTimed old now event) old.draft draft
+
+-- memory ran out so: the status row shows it, and the program does nothing
 pub record FailsAt (old : Editor) (now : Duration) (event : Event) (effect : Effect) (new : Editor) : Type 0 where
-  pub fails : FailsIn old.draft (SetNow now ∷ []) new.draft ⊎ FailsInAsked (IsTimed old now event) old.draft new.draft
+  pub fails : FailsTimed old now event new.draft
   pub kept : new.controls ≡ old.controls
+  pub names : KeepsNames (names_of old) (names_of new)
+  pub shown : KeepsShown (shown_by old) (shown_by new)
   pub message : new.message ≡ Memory
   pub silent : effect ≡ Nothing
 

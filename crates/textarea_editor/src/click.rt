@@ -1,7 +1,7 @@
 //! Clicks of the mouse: which of several in a row a press is, and what it does to the text.
 
 ghost use Rattle.std.specs.Prelude.{◌≡◌};
-ghost use Rattle.textarea_editor.specs.Clicks.{click_below, click_by, clicks_of, is_repeated, next_clicks, press_after, pressed_click};
+ghost use Rattle.textarea_editor.specs.Clicks.{click_below, click_by, clicks_of, dragged_click, is_repeated, next_clicks, press_after, pressed_click};
 
 use std::time::Duration;
 use textarea_terminal::input::{Mouse, MouseButton, MouseKind};
@@ -68,7 +68,7 @@ pub enum Extent {
     Line,
 }
 
-/// What the left button does to the text, at the cell of the mouse or below the text.
+/// What the left button does to the text, at the cell of the mouse or beyond the text's rows.
 #[derive(Clone, Copy, Debug, PartialEq, Eq)]
 pub enum Click {
     /// The cursor moves there, and the text up to there is selected, or nothing is.
@@ -78,6 +78,8 @@ pub enum Click {
     },
     /// What is there is selected as a whole.
     Whole(Extent),
+    /// The text is selected up to there, and on to the row above.
+    Above,
     /// The text is selected up to there, and on to the row below.
     Below,
 }
@@ -107,14 +109,26 @@ pub fn press_after(last: Option<Press>, now: Duration, mouse: &Mouse) -> Option<
     }
 }
 
-/// Returns what the mouse does at a cell of the text, if it is its left button.
-pub fn click_by(kind: MouseKind, shift: bool, clicks: Clicks) -> Option<Click>
-    ensures { result ≡ click_by kind shift clicks }
+/// Returns what the mouse does at a cell of the text after the last press, if it is its left button.
+pub fn click_by(last: Option<Press>, now: Duration, mouse: &Mouse) -> Option<Click>
+    ensures { result ≡ click_by mouse.now.kind last now mouse.now }
 {
-    match kind {
-        MouseKind::Press(MouseButton::Left) => Some(pressed_click(clicks, shift)),
-        MouseKind::Drag(MouseButton::Left) => Some(Click::To { selects: true }),
+    match mouse.kind {
+        MouseKind::Press(MouseButton::Left) => {
+            Some(pressed_click(clicks_of(last, now, mouse), mouse.shift))
+        }
+        MouseKind::Drag(MouseButton::Left) => Some(dragged_click(last, mouse.row)),
         _ => None,
+    }
+}
+
+// A drag in the first row scrolls, if the last press was below it: a terminal reports no row above.
+fn dragged_click(last: Option<Press>, row: u16) -> Click
+    ensures { result ≡ dragged_click last row }
+{
+    match last {
+        Some(press) if row == 0 && press.row > 0 => Click::Above,
+        _ => Click::To { selects: true },
     }
 }
 

@@ -1,5 +1,5 @@
 //! Control characters of a text, which no cell shows.
-ghost use Rattle.std.specs.Prelude.{◌≡◌, count_by, string_bytes};
+ghost use Rattle.std.specs.Prelude.{◌≡◌, ◌≤◌, count_by, length, string_bytes};
 ghost use Rattle.textarea_editor.specs.ControlCharacters.{capped_sum, count_message, is_control, shown_count};
 
 use crate::message::Message;
@@ -39,10 +39,29 @@ fn capped_sum(count: usize, more: usize) -> usize
 fn controls_in(line: &str) -> usize
     ensures { result ≡ count_by is_control line.now }
 {
-    line.as_bytes()
-        .iter()
-        .filter(|byte| is_control(**byte))
-        .count()
+    let mut count = 0;
+    let mut rest = line.as_bytes();
+    'counting: while COUNTED_AT_ONCE < rest.len() {
+        let (front, after) = rest.split_at(COUNTED_AT_ONCE);
+        count += usize::from(count_of_controls(front));
+        rest = after;
+    }
+    let last = count_of_controls(rest);
+    count + usize::from(last)
+}
+
+// The number of bytes whose count is a byte. A processor adds many of them at once.
+const COUNTED_AT_ONCE: usize = 192;
+
+fn count_of_controls(bytes: &[u8]) -> u8
+    requires { length bytes.now ≤ COUNTED_AT_ONCE }
+    ensures { result ≡ count_by is_control bytes.now }
+{
+    let mut count = 0;
+    for byte in bytes {
+        count += u8::from(is_control(*byte));
+    }
+    count
 }
 
 // Returns whether a byte is a control character other than a tab.

@@ -1,5 +1,8 @@
 //! What decides what the next event does.
 
+ghost use Rattle.std.specs.Prelude.{◌≡◌};
+ghost use Rattle.textarea_editor.specs.SetUp.{new_controls, new_modal};
+
 use crate::click::Press;
 use crate::focus::Focus;
 use crate::search::SearchOptions;
@@ -28,4 +31,31 @@ pub struct Controls {
     pub ends_when_saved: bool,
     /// The last press of the mouse's left button, if there was one.
     pub pressed: Option<Press>,
+}
+
+impl Controls {
+    /// Returns those of a new editor: the next key is for the text.
+    pub fn new(is_modal: bool) -> Controls
+        ensures { result ≡ new_controls is_modal }
+    {
+        Controls {
+            focus: Focus::Text,
+            modal: new_modal(is_modal),
+            origin: (0, 0),
+            wraps: true,
+            numbers: false,
+            keeps_indent: true,
+            search: SearchOptions::plain(),
+            matches: 0,
+            ends_when_saved: false,
+            pressed: None,
+        }
+    }
+}
+
+// The keys of the modal editor, if the editor has these.
+fn new_modal(is_modal: bool) -> Option<Modal>
+    ensures { result ≡ new_modal is_modal }
+{
+    if is_modal { Some(Modal::new()) } else { None }
 }

@@ -1,39 +1,27 @@
 //! Files: read whole, and saved by a list of steps that never leaves a part of a text alone.
+ghost use Rattle.std.specs.Prelude.{◌≡◌, IfOk};
+ghost use Rattle.textarea_editor.specs.DiskFiles.{HasHashOfRest, IsAfterFailure, IsHashAfterPiece, IsHashMade, IsQuestion, IsRead, IsSaveOf, content_at_opening, saved_end};
+ghost use Rattle.std.specs.IoError.{error_kind};
+ghost use Rattle.textarea_editor.specs.SavingSteps.{trouble_of};
 
 mod carrying_out;
 pub(crate) mod journal_file;
+mod known;
+mod made_steps;
 mod names;
 mod new_file;
 
 use crate::effect::SaveEnd;
 use crate::message::Trouble;
+use crate::viewed::viewed;
 use carrying_out::{Done, Failure, Way, carry_out};
-use std::fs::{File, Metadata};
+use known::{Known, Stamp, hash_of, is_named, question_of};
+use std::fs::{File, Metadata, OpenOptions};
 use std::io::{ErrorKind, Read};
 use std::os::unix::fs::MetadataExt;
 use std::rt::{Env, Files};
 use std::{fs, io};
 use textarea_disk::{NEW_HASH, hash_with};
-
-// A state of a file on disk: its node, size and time of the last change.
-#[derive(Clone, Copy, Debug, PartialEq, Eq)]
-struct Stamp {
-    device: u64,
-    node: u64,
-    size: u64,
-    seconds: i64,
-    nanoseconds: i64,
-}
-
-// A file as it was read or saved last.
-#[derive(Clone, Copy, Debug, PartialEq, Eq)]
-struct Known {
-    // The hash of its name.
-    name: u64,
-    stamp: Stamp,
-    // The hash of its bytes; none for a large file until its text is changed.
-    content: Option<u64>,
-}
 
 /// A file on disk, by what is known of it.
 #[derive(Clone, Copy, Debug, Default, PartialEq, Eq)]
@@ -45,8 +33,16 @@ pub struct DiskFile {
 // The size of a text from which on opening it makes no hash.
 const LARGE: usize = 16 << 20;
 
-fn trouble_of(error: &io::Error) -> Trouble {
-    match error.kind() {
+fn trouble_of(error: &io::Error) -> Trouble
+    ensures { result ≡ trouble_of (error_kind error.now) }
+{
+    trouble_of_kind(error.kind())
+}
+
+fn trouble_of_kind(kind: ErrorKind) -> Trouble
+    ensures { result ≡ trouble_of kind }
+{
+    match kind {
         ErrorKind::NotFound | ErrorKind::NotADirectory => Trouble::NoFolder,
         ErrorKind::PermissionDenied => Trouble::Rights,
         ErrorKind::IsADirectory => Trouble::Folder,
@@ -68,10 +64,6 @@ fn stamp_of(metadata: &Metadata) -> Stamp {
         seconds: metadata.mtime(),
         nanoseconds: metadata.mtime_nsec(),
     }
-}
-
-fn hash_of(text: &str) -> u64 {
-    hash_with(NEW_HASH, text.as_bytes())
 }
 
 // The state of the file on disk, or none if it doesn't exist. It has to be a regular file.
@@ -97,93 +89,86 @@ fn read_text<R: Files + AllocGlobal>(rt: &R, name: &str, size: u64) -> io::Resul
     Ok(text)
 }
 
-// The hash of a file's bytes, which are read in pieces.
+// The hash of a file's bytes.
 fn hash_on_disk<R: Files>(rt: &R, name: &str) -> io::Result<u64> {
     let mut file = File::open(rt, name)?;
-    let mut hash = NEW_HASH;
-    for _ in 0..u64::MAX {
-        let mut bytes = [0u8; 16384];
-        let count = file.read(&mut bytes)?;
-        if count == 0 {
-            break;
-        }
-        hash = hash_with(hash, &bytes[..count]);
-    }
-    Ok(hash)
+    hash_of_rest(&mut file)
 }
 
-impl Known {
-    fn new(name: &str, stamp: Stamp, content: Option<u64>) -> Known {
-        Known {
-            name: hash_of(name),
-            stamp,
-            content,
+// The hash of the bytes that are left, which are read in pieces.
+fn hash_of_rest<F: Read>(file: &mut F) -> io::Result<u64>
+    ensures { IfOk result (HasHashOfRest (F.remaining file.old) (F.remaining file.new)) }
+{
+    let mut hash = NEW_HASH;
+    'reading: for _ in 0..u64::MAX {
+        let next = hash_after_piece(file, hash)?;
+        match next {
+            Some(next) => hash = next,
+            None => return Ok(hash),
         }
     }
+    Err(io::Error::from(ErrorKind::FileTooLarge))
+}
 
-    // Whether the file of this name is as it was: by its state, and by the hash of its bytes where
-    // that is known. A file that can't be read is not.
-    fn is_on_disk<R: Files>(&self, rt: &R, name: &str, now: &Metadata) -> bool {
-        if self.stamp != stamp_of(now) {
-            return false;
-        }
-        match (self.content, hash_on_disk(rt, name)) {
-            (Some(known), Ok(hash)) => known == hash,
-            (Some(_), Err(_)) => false,
-            (None, _) => true,
-        }
+// Reads a piece of the bytes that are left, and returns the hash after it, or none at their end.
+fn hash_after_piece<F: Read>(file: &mut F, hash: u64) -> io::Result<Option<u64>>
+    ensures { IfOk result (IsHashAfterPiece (F.remaining file.old) (F.remaining file.new) hash) }
+{
+    let mut bytes = [0u8; 16384];
+    let count = file.read(&mut bytes)?;
+    if count == 0 {
+        return Ok(None);
     }
+    Ok(Some(hash_with(hash, &bytes[..count])))
+}
 
-    // What is known of a file without a hash, with that of its bytes if it is as it was. One that is
-    // not, or can't be read, has the hash of none, so that it counts as changed.
-    fn with_hash<R: Files>(self, rt: &R, name: &str) -> Known {
-        let is_same = match fs::metadata(rt, name) {
-            Ok(now) => self.stamp == stamp_of(&now),
-            Err(_) => false,
-        };
-        let content = match hash_on_disk(rt, name) {
-            Ok(hash) if is_same => hash,
-            _ => NEW_HASH,
-        };
-        Known {
-            content: Some(content),
-            ..self
-        }
+// The state of the file of this name, if it can be had.
+fn stamp_on_disk<R: Files>(rt: &R, name: &str) -> Option<Stamp> {
+    fs::metadata(rt, name)
+        .ok()
+        .map(|metadata| stamp_of(&metadata))
+}
+
+// The hash of a text that was read, if one is made at its opening: of a text that isn't large, as
+// its bytes are at hand.
+fn content_at_opening(text: &str) -> Option<u64>
+    ensures { result ≡ content_at_opening text.now }
+{
+    if text.len() < LARGE {
+        Some(hash_of(text))
+    } else {
+        None
     }
+}
 
-    // What is known after a save failed. The file may have the known bytes, at another time if it
-    // was grown and cut again, or those of the text, whose hash this is.
-    fn after_failure<R: Files>(self, rt: &R, name: &str, text: u64) -> Known {
-        match (hash_on_disk(rt, name), fs::metadata(rt, name)) {
-            (Ok(hash), Ok(now)) if hash == text || self.content == Some(hash) => Known {
-                name: self.name,
-                stamp: stamp_of(&now),
-                content: Some(hash),
-            },
-            _ => self,
-        }
+// How a save ended whose steps were made.
+fn saved_end(is_synced: bool, was_deleted: bool) -> SaveEnd
+    ensures { result ≡ saved_end is_synced was_deleted }
+{
+    match (is_synced, was_deleted) {
+        (false, _) => SaveEnd::Unsynced,
+        (true, true) => SaveEnd::SavedAnew,
+        (true, false) => SaveEnd::Saved,
     }
 }
 
 impl DiskFile {
-    /// Reads the file of this name whole. A file that doesn't exist has no text. After an error
-    /// nothing is known of the file, so that `save` asks before it overwrites it.
+    /// Reads the file of this name whole. A file that doesn't exist has no text. Where no text is
+    /// returned, what is known stays as it is; of a new `DiskFile` that is nothing, so that `save`
+    /// asks before it overwrites a file.
     pub fn read<R: Files + AllocGlobal>(
         &mut self,
         rt: &R,
         name: &str,
-    ) -> Result<Option<String>, Trouble> {
+    ) -> Result<Option<String>, Trouble>
+        ensures { IsRead self.old name.now result self.new }
+    {
         let Some(metadata) = state_of(rt, name)? else {
             return Ok(None);
         };
         match read_text(rt, name, metadata.len()) {
             Ok(text) => {
-                let is_large = text.len() >= LARGE;
-                let content = if is_large {
-                    None
-                } else {
-                    Some(hash_of(text.as_str()))
-                };
+                let content = content_at_opening(text.as_str());
                 self.known = Some(Known::new(name, stamp_of(&metadata), content));
                 Ok(Some(text))
             }
@@ -193,11 +178,22 @@ impl DiskFile {
 
     /// Makes the hash of the bytes of the file of this name, if that is known without one. It is for
     /// the first change of a large text, of which `read` makes none.
-    pub fn make_hash<R: Files>(&mut self, rt: &R, name: &str) {
+    pub fn make_hash<R: Files>(&mut self, rt: &R, name: &str)
+        ensures { IsHashMade self.old name.now self.new }
+    {
         if let Some(known) = self.known {
             if known.content.is_none() && known.name == hash_of(name) {
-                self.known = Some(known.with_hash(rt, name));
+                let hash = hash_on_disk(rt, name).ok();
+                self.known = Some(known.with_hash(stamp_on_disk(rt, name), hash));
             }
+        }
+    }
+
+    /// Returns a text that shows the bytes of the file of this name, as [`viewed`] gives it.
+    pub fn viewed<R: Files + AllocGlobal>(&self, rt: &R, name: &str) -> Result<String, Trouble> {
+        match self.bytes(rt, name) {
+            Ok(bytes) => viewed(rt.alloc(), bytes.as_slice()).map_err(|_| Trouble::Memory),
+            Err(error) => Err(trouble_of(&error)),
         }
     }
 
@@ -215,6 +211,16 @@ impl DiskFile {
         }
     }
 
+    /// Returns why the file of this name can't be written, if there is one and it can't be opened for
+    /// that, as a save does first. It stays as it is.
+    pub fn refusal<R: Files>(&self, rt: &R, name: &str) -> Option<Trouble> {
+        match OpenOptions::new().write(true).open(rt, name) {
+            Ok(_) => None,
+            Err(error) if error.kind() == ErrorKind::NotFound => None,
+            Err(error) => Some(trouble_of(&error)),
+        }
+    }
+
     /// Saves a text as the file of this name, over links to it. A file that exists has to be as it
     /// was read or saved last, unless it is overwritten.
     ///
@@ -229,59 +235,53 @@ impl DiskFile {
         name: &str,
         text: &str,
         overwrites: bool,
-    ) -> SaveEnd {
+    ) -> SaveEnd
+        ensures { IsSaveOf self.old name.now text.now overwrites result self.new }
+    {
         let old = match state_of(rt, name) {
             Ok(old) => old,
             Err(trouble) => return SaveEnd::Failed(trouble),
         };
         if let (Some(now), false) = (&old, overwrites) {
-            if let Some(question) = self.question(rt, name, now) {
+            if let Some(question) = self.question(rt, name, stamp_of(now)) {
                 return question;
             }
         }
-        let was_deleted = old.is_none() && self.knows(name);
+        let was_deleted = old.is_none() && is_named(self.known, name);
         match save_steps(rt, name, text, &old) {
             Ok(done) => {
-                self.known = Some(Known::new(name, done.stamp, Some(hash_of(text))));
-                match (done.is_synced, was_deleted) {
-                    (false, _) => SaveEnd::Unsynced,
-                    (true, true) => SaveEnd::SavedAnew,
-                    (true, false) => SaveEnd::Saved,
-                }
+                let content = Some(hash_of(text));
+                self.known = Some(Known::new(name, done.stamp, content));
+                saved_end(done.is_synced, was_deleted)
             }
             Err(trouble) => {
-                self.known = match self.known {
-                    Some(known) if self.knows(name) => Some(known.after_failure(
-                        rt,
-                        name,
-                        hash_of(text),
-                    )),
-                    known => known,
-                };
+                self.look_after_failure(rt, name, text);
                 SaveEnd::Failed(trouble)
             }
         }
     }
 
-    // Whether the file of this name was read or saved.
-    fn knows(&self, name: &str) -> bool {
-        match self.known {
-            Some(known) => known.name == hash_of(name),
-            None => false,
-        }
+    // What has to be asked before the file of this name, which exists in this state, is overwritten.
+    fn question<R: Files>(&self, rt: &R, name: &str, now: Stamp) -> Option<SaveEnd>
+        ensures { IsQuestion self.now name.now now result }
+    {
+        let hash = match self.known {
+            Some(known) if known.needs_hash_at(now) => hash_on_disk(rt, name).ok(),
+            _ => None,
+        };
+        question_of(self.known, name, now, hash)
     }
 
-    // What has to be asked before the file of this name, which exists, is overwritten.
-    fn question<R: Files>(&self, rt: &R, name: &str, now: &Metadata) -> Option<SaveEnd> {
-        match self.known {
-            Some(known) if known.name == hash_of(name) => {
-                if known.is_on_disk(rt, name, now) {
-                    None
-                } else {
-                    Some(SaveEnd::ChangedOnDisk)
-                }
+    // Finds out what is known of the file of this name after a save of this text failed.
+    fn look_after_failure<R: Files>(&mut self, rt: &R, name: &str, text: &str)
+        ensures { IsAfterFailure self.old name.now text.now self.new }
+    {
+        if let Some(known) = self.known {
+            if known.name == hash_of(name) {
+                let hash = hash_on_disk(rt, name).ok();
+                let now = stamp_on_disk(rt, name);
+                self.known = Some(known.after_failure(now, hash, hash_of(text)));
             }
-            _ => Some(SaveEnd::Exists),
         }
     }
 }

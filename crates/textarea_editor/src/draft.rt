@@ -10,10 +10,13 @@ ghost use Rattle.textarea_modal.specs.Runs.{AllMade, OneRunsOut};
 ghost use Rattle.textarea_modal.specs.Table.{passed_on};
 ghost use Rattle.textarea_screen.specs.Buffer.{KeepsOutside};
 ghost use Rattle.textarea_screen.specs.Rect.{contains};
+ghost use Rattle.tui_textarea.specs.CallResults.{call_result};
 ghost use Rattle.tui_textarea.specs.Drawing.{IsRendered, widget_of};
 ghost use Rattle.tui_textarea.specs.Measure.{reads_rows};
 ghost use Rattle.tui_textarea.specs.Rendered.{IsDrawn};
-ghost use Rattle.textarea_editor.specs.Draft.{FailsIn, IsChangeMark, IsMarkAfter, IsMeasuredRows, IsSaved, IsSavedFrom, IsUndrawn, Makes, is_made, plain_calls};
+ghost use Rattle.textarea_editor.specs.Draft.{FailsIn, HasCopy, IsChangeMark, IsMarkAfter, IsMeasuredRows, IsSaved, IsSavedFrom, IsUndrawn, Makes, has_found, is_made, plain_calls};
+ghost use Rattle.textarea_editor.specs.SearchMessages.{has_match, searches};
+ghost use Rattle.textarea_editor.specs.SetUp.{read_only};
 ghost use Rattle.textarea_text.specs.Text.{lines_of};
 
 pub mod breaking;
@@ -101,6 +104,20 @@ impl Draft {
         self.is_changed = true;
     }
 
+    /// Makes the text read-only, and keeps a copy of it, so that it never counts as changed if it
+    /// doesn't yet.
+    pub fn set_read_only(&mut self) -> Result<(), AllocError>
+        ensures area { OnOk result (self.new.area ≡ read_only self.old.area) }
+        ensures saved { OnOk result (IsSaved self.old → IsSaved self.new) }
+        ensures copy { OnOk result (HasCopy self.new) }
+        ensures err { OnErr result (self.new ≡ self.old) }
+    {
+        let copy = copy_fragment(self.allocator(), self.area.lines())?;
+        self.area.set_read_only(true);
+        self.saved = Some(copy);
+        Ok(())
+    }
+
     /// Sets the time, by which typed characters join to one edit.
     pub fn set_time(&mut self, now: Duration)
         ensures made { Makes self.old (SetNow now ∷ []) self.new }
@@ -126,6 +143,17 @@ impl Draft {
         let may_change = any_edits(calls);
         let made = make_all(&mut self.area, calls);
         self.note(may_change, made)
+    }
+
+    // Searches, and returns whether there is a match.
+    fn search(&mut self, call: Call<'_>) -> Result<bool, AllocError>
+        requires { searches call ≡ true }
+        ensures ok { OnOk result (Makes self.old (call.entry ∷ []) self.new) }
+        ensures err { OnErr result (FailsIn self.old (call.entry ∷ []) self.new) }
+        ensures found { IfOk result (λ found. found ≡ has_match self.new.area) }
+    {
+        let made = make_search(&mut self.area, call);
+        self.note(false, made)
     }
 
     /// Passes an input to the text area, and returns whether the text changed.
@@ -243,8 +271,21 @@ fn make_all(area: &mut TextArea<'static>, calls: &[Call<'_>]) -> Result<bool, Al
     Ok(found)
 }
 
+// Makes a call that searches, and returns whether there is a match.
+#[tactic(auto, using(crate::proofs::Searches::search_can, crate::proofs::Searches::search_draws_nothing))]
+fn make_search(area: &mut TextArea<'static>, call: Call<'_>) -> Result<bool, AllocError>
+    requires { searches call ≡ true }
+    ensures ok { OnOk result (AllMade area.old (call.entry ∷ []) area.new) }
+    ensures err { OnErr result (OneRunsOut area.old (call.entry ∷ []) area.new) }
+    ensures found { IfOk result (λ found. found ≡ has_match area.new) }
+{
+    Ok(has_found(make(area, call)?))
+}
+
 // Returns false if the result is that nothing was found.
-fn has_found(answer: Answer) -> bool {
+fn has_found(answer: Answer) -> bool
+    ensures { result ≡ has_found (call_result answer) }
+{
     !matches!(answer, Answer::Flag(false))
 }
 

@@ -1,12 +1,12 @@
 //! The editor's state, and its step from an event to an effect.
 
-ghost use Rattle.std.specs.Prelude.{◌≡◌, ◌≢◌, ◌^◌, ◌≤◌, ◌↔◌, ◌∷◌, [], false, true, IfOk, IfSome, IsTrue, None, OnErr, OnOk, length, string_bytes};
+ghost use Rattle.std.specs.Prelude.{◌≡◌, ◌^◌, ◌≤◌, ◌↔◌, ◌∷◌, [], false, true, IfOk, IfSome, IsTrue, None, OnErr, OnOk, length, string_bytes, is_some};
 ghost use Rattle.textarea_calls.specs.declared.call.Call.TheVariants.{GoTo};
 ghost use Rattle.textarea_editor.specs.ControlCharacters.{IsCountShown};
-ghost use Rattle.textarea_editor.specs.Draft.{IsSaved, Makes};
-ghost use Rattle.textarea_editor.specs.Editor.{controls_of, draft_of, end_of, keeps_indent_of, message_of, new_ends, numbers_of, wraps_of};
-ghost use Rattle.textarea_editor.specs.Effects.{IsWritten};
-ghost use Rattle.textarea_editor.specs.SetUp.{IsOpened, opened};
+ghost use Rattle.textarea_editor.specs.Draft.{FailsIn, IsSaved, Makes};
+ghost use Rattle.textarea_editor.specs.Editor.{IsNamed, KeepsRest, controls_of, draft_of, end_of, file_name_of, message_of, with_controls, with_draft, with_ends, with_message, wraps_of};
+ghost use Rattle.textarea_editor.specs.Effects.{IsWritten, optional_bytes};
+ghost use Rattle.textarea_editor.specs.SetUp.{IsNewEditor, IsNewFile, IsOpened, opened};
 ghost use Rattle.textarea_editor.specs.Steps.{IsStep};
 
 mod answers;
@@ -20,7 +20,9 @@ mod prompt;
 mod recovery;
 mod replacing;
 mod saving;
+mod searching;
 mod status;
+mod viewing;
 
 use crate::control_characters::count_message;
 use crate::controls::Controls;
@@ -28,14 +30,11 @@ use crate::draft::Draft;
 use crate::editor::parts::{fields, file_draft, opened, replace};
 use crate::effect::Effect;
 use crate::file_text::{LineEnd, LineEnds};
-use crate::focus::Focus;
 use crate::message::Message;
-use crate::search::SearchOptions;
 pub use drawing::DrawnFrame;
 use std::alloc::{AllocError, Global};
 use std::time::Duration;
 use textarea_data::scroll::Scrolling;
-use textarea_modal::Modal;
 use textarea_terminal::input::Event;
 use tui_textarea::TextArea;
 
@@ -75,10 +74,7 @@ pub struct Editor {
 impl Editor {
     /// Returns an editor of an empty text without a name, on a screen of this size.
     pub fn new(alloc: Global, columns: u16, rows: u16, is_modal: bool) -> Result<Editor, AllocError>
-        ensures saved { IfOk result (λ editor. IsSaved (draft_of editor)) }
-        ensures area { IfOk result (λ editor. (draft_of editor).area ≡ opened [] true) }
-        ensures ends { IfOk result (λ editor. end_of editor ≡ new_ends true) }
-        ensures indent { IfOk result (λ editor. keeps_indent_of editor ≡ true) }
+        ensures { IfOk result (IsNewEditor columns rows is_modal) }
     {
         let draft = opened(alloc, Vec::new(alloc), true)?;
         let (field, help) = match fields(alloc, is_modal) {
@@ -101,18 +97,7 @@ impl Editor {
                 between: LineEnd::LineFeed,
                 closes_last: true,
             },
-            controls: Controls {
-                focus: Focus::Text,
-                modal: if is_modal { Some(Modal::new()) } else { None },
-                origin: (0, 0),
-                wraps: true,
-                numbers: false,
-                keeps_indent: true,
-                search: SearchOptions::plain(),
-                matches: 0,
-                ends_when_saved: false,
-                pressed: None,
-            },
+            controls: Controls::new(is_modal),
             message: Message::Nothing,
             columns,
             rows,
@@ -133,12 +118,14 @@ impl Editor {
             IsOpened (draft_of self.new).area (wraps_of self.new))) }
         ensures wraps { OnOk result (IfSome text (λ text.
             IsTrue (wraps_of self.new) ↔ (length (string_bytes text) ≤ 2 ^ 20))) }
-        ensures unnumbered { OnOk result (IfSome text (λ text. numbers_of self.new ≡ false)) }
+        ensures controls { OnOk result (IfSome text (λ text. controls_of self.new
+            ≡ record (controls_of self.old) { wraps = wraps_of self.new; numbers = false })) }
         ensures saved { OnOk result (IfSome text (λ text. IsSaved (draft_of self.new))) }
         ensures counted { OnOk result (IfSome text (λ text.
             IsCountShown (draft_of self.new).area Message.Nothing (message_of self.new))) }
-        ensures new_file { OnOk result (text ≡ None →
-            (draft_of self.new ≡ draft_of self.old) × (end_of self.new ≡ end_of self.old)) }
+        ensures new_file { OnOk result (text ≡ None → IsNewFile self.old self.new) }
+        ensures name { OnOk result (IsNamed name.now (file_name_of self.new)) }
+        ensures rest { OnOk result (KeepsRest self.old self.new) }
         ensures err { OnErr result (self.new ≡ self.old) }
     {
         let alloc = self.allocator();
@@ -158,10 +145,13 @@ impl Editor {
         ensures opened { OnOk result (IsOpened (draft_of self.new).area (wraps_of self.new)) }
         ensures wraps { OnOk result
             (IsTrue (wraps_of self.new) ↔ (length (string_bytes text) ≤ 2 ^ 20)) }
-        ensures unnumbered { OnOk result (numbers_of self.new ≡ false) }
+        ensures controls { OnOk result (controls_of self.new
+            ≡ record (controls_of self.old) { wraps = wraps_of self.new; numbers = false }) }
         ensures saved { OnOk result (IsSaved (draft_of self.new)) }
         ensures counted { OnOk result
             (IsCountShown (draft_of self.new).area Message.Nothing (message_of self.new)) }
+        ensures name { OnOk result (file_name_of self.new ≡ file_name_of self.old) }
+        ensures rest { OnOk result (KeepsRest self.old self.new) }
         ensures err { OnErr result (self.new ≡ self.old) }
     {
         let wraps = text.len() <= WRAPPED_BYTES;
@@ -177,8 +167,8 @@ impl Editor {
     /// Has the last line of a new file get a line end when the file is saved, as at first, or not.
     /// It is for a file that has no text yet.
     pub fn set_closes_last(&mut self, closes_last: bool)
-        ensures draft { draft_of self.new ≡ draft_of self.old }
-        ensures end { end_of self.new ≡ record (end_of self.old) { closes_last = closes_last } }
+        ensures { self.new ≡ with_ends self.old
+            (record (end_of self.old) { closes_last = closes_last }) }
     {
         self.line_end.closes_last = closes_last;
     }
@@ -186,10 +176,8 @@ impl Editor {
     /// Has Enter in the text keep the indent of its line, as at first, or not. With modal keys it never
     /// does.
     pub fn set_keeps_indent(&mut self, keeps_indent: bool)
-        ensures draft { draft_of self.new ≡ draft_of self.old }
-        ensures end { end_of self.new ≡ end_of self.old }
-        ensures controls { controls_of self.new
-            ≡ record (controls_of self.old) { keeps_indent = keeps_indent } }
+        ensures { self.new ≡ with_controls self.old
+            (record (controls_of self.old) { keeps_indent = keeps_indent }) }
     {
         self.controls.keeps_indent = keeps_indent;
     }
@@ -197,23 +185,25 @@ impl Editor {
     /// Moves the cursor to the position (row, column) of the text, or the nearest one.
     pub fn go_to(&mut self, place: (usize, usize)) -> Result<(), AllocError>
         ensures ok { OnOk result (Makes (draft_of self.old) (GoTo place ∷ []) (draft_of self.new)) }
-        ensures end { end_of self.new ≡ end_of self.old }
+        ensures err { OnErr result
+            (FailsIn (draft_of self.old) (GoTo place ∷ []) (draft_of self.new)) }
+        ensures rest { self.new ≡ with_draft self.old (draft_of self.new) }
     {
         self.draft.move_to(place)
     }
 
     /// Shows a message until the next key.
     pub fn show_message(&mut self, message: Message)
-        ensures draft { draft_of self.new ≡ draft_of self.old }
-        ensures end { end_of self.new ≡ end_of self.old }
-        ensures controls { controls_of self.new ≡ controls_of self.old }
-        ensures message { message_of self.new ≡ message }
+        ensures { self.new ≡ with_message self.old message }
     {
         self.message = message;
     }
 
     /// Returns the name of the file, if it has one.
-    pub fn name(&self) -> Option<&str> {
+    pub fn name(&self) -> Option<&str>
+        ensures named { is_some result ≡ is_some (file_name_of self.now) }
+        ensures name { IfSome result (λ name. name.now ≡ optional_bytes (file_name_of self.now)) }
+    {
         match &self.name {
             Some(name) => Some(name.as_str()),
             None => None,

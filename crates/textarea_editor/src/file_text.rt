@@ -3,10 +3,11 @@
 //! The lines are the texts between line ends. So a file that ends in a line end has an empty last
 //! line, and a file that doesn't has none: joined, the lines give the same bytes.
 
-ghost use Rattle.std.specs.Prelude.{◌≡◌, ◌<◌, ◌==◌, ◌++◌, false, length, IfOk, IfSome, string_bytes};
+ghost use Rattle.std.specs.Prelude.{◌≡◌, ◌<◌, ◌==◌, ◌++◌, ◌∷◌, false, length, IfOk, IfSome, string_bytes};
 ghost use Rattle.std.specs.List.{list_any};
 ghost use Rattle.textarea_editor.specs.FileText.{closed_bytes, end_bytes, file_bytes, has_returns, joined_bytes, last_end, line_end_of};
 
+use memchr::memchr;
 use std::alloc::{AllocError, Global};
 
 /// What separates the lines of a file.
@@ -44,7 +45,18 @@ fn split_line(text: &str, end: LineEnd) -> Option<(&str, &str)>
     ensures components { IfSome result (λ x. text.now ≡ x.0.now ++ (end_bytes end ++ x.1.now)) }
     ensures shorter { IfSome result (λ x. length x.1.now < length text.now) }
 {
-    text.split_once(end.text())
+    match end {
+        LineEnd::LineFeed => split_at_feed(text),
+        LineEnd::CarriageReturn => text.split_once("\r\n"),
+    }
+}
+
+// The text before the first line feed, and the text after it.
+fn split_at_feed(text: &str) -> Option<(&str, &str)>
+    ensures { IfSome result (λ x. text.now ≡ x.0.now ++ (10 ∷ x.1.now)) }
+{
+    let at = memchr(b'\n', text.as_bytes())?;
+    Some((&text[..at], &text[at + 1..]))
 }
 
 /// Returns the line end of a text: a carriage return and a line feed if the text has a line feed,

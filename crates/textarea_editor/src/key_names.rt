@@ -1,10 +1,13 @@
 //! The names of keys.
+ghost use Rattle.std.specs.Prelude.{◌≡◌, ◌++◌, OnOk, codes, decimal, string_bytes};
+ghost use Rattle.textarea_editor.specs.HelpRows.{key_words, name_words, plain_words};
 
 use std::alloc::AllocError;
 use textarea_data::input::{Input, Key};
 
-/// The keys that type no character and are on each keyboard, but function keys.
-pub const NAMED_KEYS: [Key; 13] = [
+/// The keys that help looks up: those on each keyboard that type no character, but function keys, and
+/// the characters that the text area's table has with Ctrl or Alt.
+pub const HELP_KEYS: [Key; 43] = [
     Key::Right,
     Key::Left,
     Key::Up,
@@ -18,10 +21,42 @@ pub const NAMED_KEYS: [Key; 13] = [
     Key::Backspace,
     Key::Delete,
     Key::Esc,
+    Key::Char('a'),
+    Key::Char('b'),
+    Key::Char('c'),
+    Key::Char('d'),
+    Key::Char('e'),
+    Key::Char('f'),
+    Key::Char('g'),
+    Key::Char('h'),
+    Key::Char('i'),
+    Key::Char('j'),
+    Key::Char('k'),
+    Key::Char('l'),
+    Key::Char('m'),
+    Key::Char('n'),
+    Key::Char('o'),
+    Key::Char('p'),
+    Key::Char('q'),
+    Key::Char('r'),
+    Key::Char('s'),
+    Key::Char('t'),
+    Key::Char('u'),
+    Key::Char('v'),
+    Key::Char('w'),
+    Key::Char('x'),
+    Key::Char('y'),
+    Key::Char('z'),
+    Key::Char('<'),
+    Key::Char('>'),
+    Key::Char('['),
+    Key::Char(']'),
 ];
 
 /// Adds the name of an input to a text, as `Ctrl Alt Left`.
-pub fn push_name(out: &mut String, input: &Input) -> Result<(), AllocError> {
+pub fn push_name(out: &mut String, input: &Input) -> Result<(), AllocError>
+    ensures { OnOk result (string_bytes out.new ≡ string_bytes out.old ++ name_words input.now) }
+{
     if input.ctrl {
         out.push_str("Ctrl ")?;
     }
@@ -34,7 +69,9 @@ pub fn push_name(out: &mut String, input: &Input) -> Result<(), AllocError> {
     push_key(out, input.key)
 }
 
-fn push_key(out: &mut String, key: Key) -> Result<(), AllocError> {
+fn push_key(out: &mut String, key: Key) -> Result<(), AllocError>
+    ensures { OnOk result (string_bytes out.new ≡ string_bytes out.old ++ key_words key) }
+{
     match key {
         Key::Char(c) => out.push(c.to_ascii_uppercase()),
         Key::F(number) => push_function_key(out, number),
@@ -42,12 +79,17 @@ fn push_key(out: &mut String, key: Key) -> Result<(), AllocError> {
     }
 }
 
-fn push_function_key(out: &mut String, number: u8) -> Result<(), AllocError> {
+fn push_function_key(out: &mut String, number: u8) -> Result<(), AllocError>
+    ensures { OnOk result (string_bytes out.new
+        ≡ string_bytes out.old ++ codes "F" ++ decimal number) }
+{
     let name = format!(in *out.allocator(); "F{number}")?;
     out.push_str(name.as_str())
 }
 
-fn name_of(key: Key) -> &'static str {
+fn name_of(key: Key) -> &'static str
+    ensures { result.now ≡ plain_words key }
+{
     match key {
         Key::Backspace => "Backspace",
         Key::Enter => "Enter",

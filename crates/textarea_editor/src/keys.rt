@@ -2,6 +2,8 @@
 
 ghost use Rattle.std.specs.Prelude.{◌≡◌};
 ghost use Rattle.textarea_editor.specs.EventCalls.{IsBoundCommand, binds, is_bound, is_same};
+ghost use Rattle.textarea_editor.specs.HelpRows.{command_words};
+ghost use Rattle.textarea_editor.specs.KeyTable.{key_table};
 
 use textarea_data::input::{Input, Key};
 
@@ -122,9 +124,16 @@ pub const BINDINGS: [Binding; 24] = [
     binding!(plain Key::Esc, KeyCommand::Cancel, false),
 ];
 
+/// The table is the one that the definition of the keys writes out.
+pub fn bindings_are_the_key_table()
+    ensures { BINDINGS ≡ key_table }
+{}
+
 impl KeyCommand {
     /// Returns what it does, in words.
-    pub fn about(self) -> &'static str {
+    pub fn about(self) -> &'static str
+        ensures { result.now ≡ command_words self }
+    {
         match self {
             KeyCommand::Save => "save",
             KeyCommand::SaveAs => "save as another file",

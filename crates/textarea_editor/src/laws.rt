@@ -1,13 +1,16 @@
 //! Laws of runs of events. A run is a list of events, each with its time, its effect, and the
 //! editor after it.
-ghost use Rattle.std.specs.Prelude.{◌≡◌, ◌⊎◌, false, true, List};
+ghost use Rattle.std.specs.Prelude.{◌≡◌, ◌⊎◌, false, true, List, Some, Option};
 ghost use Rattle.std.specs.declared.time.Duration.{Duration};
-ghost use Rattle.textarea_editor.specs.Draft.{HasCopy, IsSaved, IsUnsaved};
-ghost use Rattle.textarea_editor.specs.Editor.{AsksToSave, draft_of};
+ghost use Rattle.textarea_editor.specs.Draft.{HasCopy, IsSaved, IsSavedFrom, IsUnsaved};
+ghost use Rattle.textarea_editor.specs.Editor.{AsksToSave, draft_of, end_of};
+ghost use Rattle.textarea_editor.specs.Effects.{IsWritten, text_of_saving};
 ghost use Rattle.textarea_editor.specs.Steps.{AreSteps, IsStep, MakesCallsOf, Moment, NoneFails};
+ghost use Rattle.textarea_editor.specs.Turns.{AreTurns, GivenFile, HasText, Turn, given_after, text_of_file};
 ghost use Rattle.textarea_editor.specs.declared.editor.Editor.{Editor};
-ghost use Rattle.textarea_editor.specs.declared.effect.Effect.TheVariants.{Quit};
+ghost use Rattle.textarea_editor.specs.declared.effect.Effect.TheVariants.{Quit, Save};
 ghost use Rattle.textarea_terminal.specs.declared.input.event.Event.{Event};
+ghost use Rattle.textarea_editor.specs.declared.effect.SaveRequest.{SaveRequest};
 
 /// As long as memory suffices, the text area after any run is that of the calls that the events
 /// make.
@@ -47,4 +50,22 @@ pub fn quits_without_a_question_only_with_the_saved_text()
         → IsStep old now event Quit new
         → AsksToSave old
         ⊎ ((draft_of new).area.document.text ≡ (draft_of saved).area.document.text) }
+{}
+
+/// The text that counts as the saved one after a save is that of the effect that asked for the save,
+/// if no event came in between.
+pub fn saved_text_is_that_of_the_effect()
+    ensures { (old asked saved : Editor) (now : Duration) (event : Event) (saving : SaveRequest)
+        → IsStep old now event (Save saving) asked
+        → IsSavedFrom (draft_of asked) (draft_of saved) → end_of saved ≡ end_of asked
+        → IsWritten (draft_of saved).area (end_of saved) (text_of_saving saving) }
+{}
+
+/// After any run of events and of saves that they ask for: a text that counts as unchanged is the
+/// one that the disk was given by the last save that succeeded, or that it had at first.
+pub fn unchanged_text_is_on_the_disk()
+    ensures { (opened now : Editor) (turns : List Turn) (first : Option GivenFile)
+        (file : GivenFile) → HasText first opened → AreTurns opened turns now
+        → given_after first turns ≡ Some file → (draft_of now).is_changed ≡ false
+        → IsWritten (draft_of now).area (end_of now) (text_of_file file) }
 {}

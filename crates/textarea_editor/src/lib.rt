@@ -30,11 +30,12 @@ pub mod search;
 mod shortened;
 pub mod storage;
 pub mod terminal_colors;
+pub mod viewed;
 
 pub use arguments::Arguments;
 pub use disk::DiskFile;
 pub use editor::Editor;
-pub use effect::{Effect, SaveEnd};
+pub use effect::{Effect, SaveEnd, SaveRequest};
 pub use screen::Screen;
 pub use storage::Storage;
 pub use textarea_terminal::input::Event;

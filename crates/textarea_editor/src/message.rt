@@ -1,7 +1,10 @@
 //! Messages of the status row.
 
-ghost use Rattle.std.specs.Prelude.{◌≡◌};
-ghost use Rattle.textarea_editor.specs.SaveEnds.{asks_for_name};
+ghost use Rattle.std.specs.Prelude.{◌≡◌, ◌≤◌, ℕ, IfOk, length, string_bytes};
+ghost use Rattle.textarea_editor.specs.Messages.{message_start, message_words, not_saved_words, full_reason, short_reason};
+ghost use Rattle.textarea_editor.specs.declared.message.Trouble.{Trouble};
+
+use std::alloc::{AllocError, Global};
 
 /// Why a file can't be read or saved.
 #[derive(Clone, Copy, Debug, PartialEq, Eq)]
@@ -30,15 +33,10 @@ pub enum Trouble {
 }
 
 impl Trouble {
-    /// Returns whether the file may be saved under another name.
-    pub fn asks_for_name(self) -> bool
-        ensures { result ≡ asks_for_name self }
-    {
-        !matches!(self, Trouble::DiskFull | Trouble::Memory)
-    }
-
     /// Returns the reason as a part of a sentence.
-    pub fn text(self) -> &'static str {
+    pub fn text(self) -> &'static str
+        ensures { result.now ≡ full_reason self }
+    {
         match self {
             Trouble::NotText => "it is not UTF-8 text",
             Trouble::Folder => "it is a folder",
@@ -52,6 +50,24 @@ impl Trouble {
             Trouble::Other => "the file system reports an error",
         }
     }
+
+    /// Returns the reason in at most 18 characters, for narrow rows.
+    pub fn short_text(self) -> &'static str
+        ensures { result.now ≡ short_reason self }
+    {
+        match self {
+            Trouble::NotText => "not UTF-8",
+            Trouble::Folder => "it is a folder",
+            Trouble::NotFile => "no regular file",
+            Trouble::Rights => "not permitted",
+            Trouble::DiskFull => "disk full",
+            Trouble::NoFolder => "no such folder",
+            Trouble::ReadOnly => "read-only disk",
+            Trouble::Memory => "out of memory",
+            Trouble::InPart => "in part; .taedit-1",
+            Trouble::Other => "disk error",
+        }
+    }
 }
 
 /// A message of the status row.
@@ -61,6 +77,11 @@ pub enum Message {
     Nothing,
     /// The file doesn't exist yet.
     NewFile,
+    /// The file isn't UTF-8: it is shown as [`viewed`](crate::viewed::viewed) gives it, and can't be
+    /// edited.
+    NotUtf8,
+    /// The text can't be edited.
+    ReadOnly,
     /// The opened text has this number of control characters other than tabs.
     ControlCharacters(usize),
     /// The file was saved.
@@ -71,6 +92,8 @@ pub enum Message {
     Unsynced,
     /// Nothing, but that the question whether to overwrite is for a file that was not opened.
     Exists,
+    /// The opened file can't be written, for this reason.
+    Unwritable(Trouble),
     /// Another editor has the file open.
     OpenElsewhere,
     /// No journal can be written, so that unsaved changes are lost if the program is killed.
@@ -79,6 +102,10 @@ pub enum Message {
     NotSaved(Trouble),
     /// The searched text has no match.
     NoMatch,
+    /// The search went on from the text's start to the match that it found.
+    FromStart,
+    /// The search back went on from the text's end to the match that it found.
+    FromEnd,
     /// The prompt's text is to be a pattern, and is none.
     BrokenPattern,
     /// This number of matches was replaced.
@@ -90,23 +117,68 @@ pub enum Message {
 }
 
 impl Message {
-    /// Returns the message, and the reason that follows it, if there is one.
-    pub fn components(self) -> (&'static str, &'static str) {
+    /// Returns the message, but for the number or the reason that follows it, if one does.
+    pub fn text(self) -> &'static str
+        ensures { result.now ≡ message_start self }
+    {
         match self {
-            Message::Nothing | Message::Exists => ("", ""),
-            Message::NewFile => ("new file", ""),
-            Message::ControlCharacters(_) => ("control characters: ", ""),
-            Message::Saved => ("saved", ""),
-            Message::SavedAnew => ("it was deleted; saved anew", ""),
-            Message::Unsynced => ("saved, but the disk failed to make sure of it", ""),
-            Message::OpenElsewhere => ("another editor has it open", ""),
-            Message::NoJournal => ("no journal can be written", ""),
-            Message::NotSaved(trouble) => ("not saved: ", trouble.text()),
-            Message::NoMatch => ("no match", ""),
-            Message::BrokenPattern => ("broken pattern", ""),
-            Message::Replaced(_) => ("replaced: ", ""),
-            Message::NoLine => ("not a line number", ""),
-            Message::Memory => ("out of memory", ""),
+            Message::Nothing | Message::Exists => "",
+            Message::NewFile => "new file",
+            Message::NotUtf8 => "not UTF-8: read-only, other bytes are shown as \\xE9",
+            Message::ReadOnly => "read-only",
+            Message::ControlCharacters(_) => "control characters: ",
+            Message::Saved => "saved",
+            Message::SavedAnew => "it was deleted; saved anew",
+            Message::Unsynced => "saved, but the disk failed to make sure of it",
+            Message::Unwritable(_) => "it can't be written: ",
+            Message::OpenElsewhere => "another editor has it open",
+            Message::NoJournal => "no journal can be written",
+            Message::NotSaved(_) => "not saved: ",
+            Message::NoMatch => "no match",
+            Message::FromStart => "went on from the start",
+            Message::FromEnd => "went on from the end",
+            Message::BrokenPattern => "broken pattern",
+            Message::Replaced(_) => "replaced: ",
+            Message::NoLine => "not a line number",
+            Message::Memory => "out of memory",
         }
     }
 }
+
+/// Returns a message. That of a failed save has the most words that this number of characters has
+/// room for: whole, then the reason alone, and then the reason in few words.
+pub fn message_text(alloc: Global, message: Message, room: usize) -> Result<String, AllocError>
+    ensures { IfOk result (λ text. string_bytes text ≡ message_words message room) }
+{
+    match message {
+        Message::ControlCharacters(count) => { format!(in alloc; "control characters: {count}") }
+        Message::Replaced(count) => format!(in alloc; "replaced: {count}"),
+        Message::Unwritable(trouble) => {
+            let reason = trouble.text();
+            format!(in alloc; "it can't be written: {reason}")
+        }
+        Message::NotSaved(trouble) => not_saved_text(alloc, trouble, room),
+        _ => String::from_str(alloc, message.text()),
+    }
+}
+
+// Returns that a save failed, and why.
+fn not_saved_text(alloc: Global, trouble: Trouble, room: usize) -> Result<String, AllocError>
+    ensures { IfOk result (λ text. string_bytes text ≡ not_saved_words trouble room) }
+{
+    let reason = trouble.text();
+    let whole = format!(in alloc; "not saved: {reason}")?;
+    if whole.len() <= room {
+        return Ok(whole);
+    }
+    if reason.len() <= room {
+        return String::from_str(alloc, reason);
+    }
+    String::from_str(alloc, trouble.short_text())
+}
+
+/// Where 18 columns or more are left for it, it is said in them why a save failed.
+pub fn reasons_fit_into_18_columns()
+    ensures { (failed : Trouble) (room : ℕ) → 18 ≤ room
+        → length (not_saved_words failed room) ≤ room }
+{}

@@ -1,13 +1,47 @@
 //! Names that are shortened in their middle.
-ghost use Rattle.std.specs.Prelude.{◌≡◌, ◌∷◌, ◌++◌, IfOk, OnOk};
+ghost use Rattle.std.specs.Prelude.{◌≡◌, ◌∷◌, ◌++◌, IfOk, OnOk, length};
 ghost use Rattle.std.specs.Str.{chars};
-ghost use Rattle.textarea_editor.specs.Shortened.{shortened};
+ghost use Rattle.textarea_editor.specs.Shortened.{fitted_name, shortened, text_columns};
 ghost use Rattle.textarea_text.specs.Text.{characters_of};
 
 use std::alloc::{AllocError, Global};
+use textarea_wrap::wrap::columns::plain_columns;
 
 // What stands for the characters that are left out.
 const ELLIPSIS: char = '\u{2026}';
+
+/// Returns a name in at most this number of columns, if none of its characters takes three: the whole
+/// name if it fits, else shortened. A name with wide characters is shortened as if all were wide.
+pub fn fitted_name(alloc: Global, name: &str, room: usize) -> Result<String, AllocError>
+    ensures { IfOk result (λ text. characters_of text ≡ fitted_name name.now room) }
+{
+    let columns = columns_of(name);
+    if usize::from(columns) <= room {
+        return String::from_str(alloc, name);
+    }
+    if character_count(name) < usize::from(columns) {
+        return shortened(alloc, name, room / 2);
+    }
+    shortened(alloc, name, room)
+}
+
+/// Returns the number of a text's columns, of which at most 65,535 are counted.
+pub fn columns_of(text: &str) -> u16
+    ensures { result ≡ text_columns text.now }
+{
+    let mut columns = 0;
+    for c in text.chars() {
+        columns = (columns + plain_columns(c)).min(65_535);
+    }
+    columns as u16
+}
+
+#[tactic(auto, using(std::proofs::lemmas::Str::chars_from_encodes))]
+fn character_count(text: &str) -> usize
+    ensures { result ≡ length (chars text.now) }
+{
+    text.chars().count()
+}
 
 /// Returns a name in at most this number of characters: the whole name if it fits, else its start
 /// and its end, of about the same length, with an ellipsis between them.

@@ -3,7 +3,7 @@
 use crate::disk::DiskFile;
 use crate::disk::journal_file::{FoundJournal, JournalFile, open_locked};
 use crate::editor::Editor;
-use crate::effect::SaveEnd;
+use crate::effect::{SaveEnd, SaveRequest};
 use crate::message::{Message, Trouble};
 use std::alloc::AllocError;
 use std::fs::File;
@@ -39,7 +39,8 @@ pub struct Storage {
 impl Storage {
     /// Opens the file of this name. If there is a journal of it with other text, the editor asks
     /// whether to go on with that, or to discard one of another version. Another editor of the file
-    /// is told in the status row. Returns why the file can't be read, if it can't.
+    /// is told in the status row, and else why the file can't be written, if it can't. A file that
+    /// isn't UTF-8 is shown, as [`Editor::view`] does. Returns why the file can't be read, if it can't.
     pub fn open(
         &mut self,
         rt: &HostRuntime,
@@ -48,6 +49,7 @@ impl Storage {
     ) -> Result<Option<Trouble>, AllocError> {
         let text = match self.file.read(rt, name) {
             Ok(text) => text,
+            Err(Trouble::NotText) => return self.view(rt, editor, name),
             Err(trouble) => return Ok(Some(trouble)),
         };
         let is_first = self.lock(rt, name);
@@ -63,8 +65,27 @@ impl Storage {
         }
         if self.is_off || !is_first {
             editor.show_message(Message::OpenElsewhere);
+        } else if let Some(trouble) = self.file.refusal(rt, name) {
+            editor.show_message(Message::Unwritable(trouble));
         }
         Ok(None)
+    }
+
+    // Shows the bytes of the file of this name. The text has no name, so nothing is locked, and there
+    // is no journal.
+    fn view(
+        &self,
+        rt: &HostRuntime,
+        editor: &mut Editor,
+        name: &str,
+    ) -> Result<Option<Trouble>, AllocError> {
+        match self.file.viewed(rt, name) {
+            Ok(text) => {
+                editor.view(text)?;
+                Ok(None)
+            }
+            Err(trouble) => Ok(Some(trouble)),
+        }
     }
 
     // Opens a text beside which there is a journal with these bytes.
@@ -233,10 +254,10 @@ impl Storage {
         }
     }
 
-    /// Saves a text as the file of this name, as [`DiskFile::save`] does, and then removes the
-    /// journal.
-    pub fn save(&mut self, rt: &HostRuntime, name: &str, text: &str, overwrites: bool) -> SaveEnd {
-        let end = self.file.save(rt, name, text, overwrites);
+    /// Carries out a save, as [`DiskFile::save`] does, and then removes the journal.
+    pub fn save(&mut self, rt: &HostRuntime, saving: &SaveRequest) -> SaveEnd {
+        let name = saving.name();
+        let end = self.file.save(rt, name, saving.text(), saving.overwrites());
         if end.is_saved() {
             self.end(rt);
             self.lock(rt, name);

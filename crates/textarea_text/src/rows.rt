@@ -79,7 +79,7 @@ fn start_after(bytes: &[u8], count: usize) -> usize
     ensures start { result < length bytes.now
         → is_char_start (slice_index bytes.now result) ≡ true }
 {
-    let (skipped, mut left) = skipped_stretches(bytes, count);
+    let (skipped, mut left) = skipped_bytes(bytes, count);
     for index in skipped..bytes.len() {
         if begins_character(bytes[index]) {
             if left == 0 {
@@ -92,16 +92,34 @@ fn start_after(bytes: &[u8], count: usize) -> usize
 }
 
 // Returns a number of bytes in which at most `count` characters begin, and how many fewer than
-// `count` these are.
-fn skipped_stretches(bytes: &[u8], count: usize) -> (usize, usize)
+// `count` these are: fewer than a short stretch has bytes, unless few bytes are left.
+fn skipped_bytes(bytes: &[u8], count: usize) -> (usize, usize)
     ensures within { result.0 ≤ length bytes.now }
     ensures left { char_count (take result.0 bytes.now) + result.1 ≡ count }
 {
-    let mut left = count;
-    let mut at = 0;
-    'skipping: while COUNTED_AT_ONCE <= left && COUNTED_AT_ONCE <= bytes.len() - at {
-        left -= usize::from(count_of_starts(&bytes[at..at + COUNTED_AT_ONCE]));
-        at += COUNTED_AT_ONCE;
+    let none = (0, count);
+    if count < SHORT_STRETCH {
+        return none;
+    }
+    let long = skipped_stretches(bytes, none, COUNTED_AT_ONCE);
+    let middle = skipped_stretches(bytes, long, MIDDLE_STRETCH);
+    skipped_stretches(bytes, middle, SHORT_STRETCH)
+}
+
+// The same after `known`, which is such a number of bytes with the characters that are left, in
+// stretches of this many bytes.
+fn skipped_stretches(bytes: &[u8], known: (usize, usize), stretch: usize) -> (usize, usize)
+    requires within { known.0 ≤ length bytes.now }
+    requires some { 0 < stretch }
+    requires few { stretch ≤ COUNTED_AT_ONCE }
+    ensures within { result.0 ≤ length bytes.now }
+    ensures left { char_count (take result.0 bytes.now) + result.1
+        ≡ char_count (take known.0 bytes.now) + known.1 }
+{
+    let (mut at, mut left) = known;
+    'skipping: while stretch <= left && stretch <= bytes.len() - at {
+        left -= usize::from(count_of_starts(&bytes[at..at + stretch]));
+        at += stretch;
     }
     (at, left)
 }
@@ -123,6 +141,11 @@ pub fn column_count(line: &str) -> usize
 
 // The number of bytes whose count is a byte. A processor adds many of them at once.
 const COUNTED_AT_ONCE: usize = 192;
+
+// Numbers of bytes that are added at once where fewer characters, or bytes, are left.
+const MIDDLE_STRETCH: usize = 32;
+
+const SHORT_STRETCH: usize = 8;
 
 // The number of bytes that begin a character.
 fn count_of_starts(bytes: &[u8]) -> u8

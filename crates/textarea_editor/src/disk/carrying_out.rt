@@ -1,7 +1,12 @@
 // The steps of a save, carried out.
+ghost use Rattle.std.specs.Prelude.{◌≡◌};
+ghost use Rattle.textarea_editor.specs.SavingSteps.{IsGivenUp, IsPlanMade, failure_at, no_other_way, plan_by, way_after_rename, way_without_copy};
+
+use super::known::Stamp;
+use super::made_steps::{MakesSteps, make_all};
 use super::names::folder_of;
 use super::new_file::{NewFile, create_beside, create_elsewhere};
-use super::{Stamp, stamp_of, trouble_of};
+use super::{stamp_of, trouble_of, trouble_of_kind};
 use crate::message::Trouble;
 use std::fs::{File, Metadata, OpenFile, OpenOptions};
 use std::io::{ErrorKind, Seek, SeekFrom, Write};
@@ -37,7 +42,8 @@ pub(super) struct Done {
 
 // The files of a save, and what is saved. The file itself is open if it exists.
 #[derive(Drop)]
-struct Saving<'a, F: Drop> {
+struct Saving<'a, R, F: Drop> {
+    rt: &'a R,
     target: &'a str,
     file: Option<F>,
     copy: NewFile<F>,
@@ -57,13 +63,14 @@ pub(super) fn carry_out<R: Files + Env + AllocGlobal>(
     let copy = create_copy(rt, target, old, way)?;
     let plan = plan_of(old, &copy.file, way);
     let mut saving = Saving {
+        rt,
         target,
         file,
         copy,
         text,
         old,
     };
-    let is_synced = make_steps(rt, &mut saving, plan)?;
+    let is_synced = make_plan(&mut saving, plan)?;
     let metadata = match &saving.file {
         Some(file) if plan == SavePlan::InPlace => file.metadata(),
         _ => saving.copy.file.metadata(),
@@ -73,13 +80,15 @@ pub(super) fn carry_out<R: Files + Env + AllocGlobal>(
             stamp: stamp_of(&metadata),
             is_synced,
         }),
-        Err(error) => Err(failed(&error)),
+        Err(error) => Err(failed(error.kind())),
     }
 }
 
-fn failed(error: &io::Error) -> Failure {
+fn failed(kind: ErrorKind) -> Failure
+    ensures { result ≡ no_other_way kind }
+{
     Failure {
-        trouble: trouble_of(error),
+        trouble: trouble_of_kind(kind),
         next: None,
     }
 }
@@ -95,7 +104,7 @@ fn open_old<R: Files>(
     }
     match OpenOptions::new().write(true).open(rt, target) {
         Ok(file) => Ok(Some(file)),
-        Err(error) => Err(failed(&error)),
+        Err(error) => Err(failed(error.kind())),
     }
 }
 
@@ -113,22 +122,21 @@ fn create_copy<R: Files + Env + AllocGlobal>(
     };
     match made {
         Ok(copy) => Ok(copy),
-        Err(error) => {
-            let can_be_elsewhere = match error.kind() {
-                ErrorKind::PermissionDenied
-                | ErrorKind::ReadOnlyFilesystem
-                | ErrorKind::InvalidFilename => old.is_some() && way != Way::Elsewhere,
-                _ => false,
-            };
-            Err(Failure {
-                trouble: trouble_of(&error),
-                next: if can_be_elsewhere {
-                    Some(Way::Elsewhere)
-                } else {
-                    None
-                },
-            })
-        }
+        Err(error) => Err(Failure {
+            trouble: trouble_of(&error),
+            next: way_without_copy(error.kind(), way, old.is_some()),
+        }),
+    }
+}
+
+// The way that is left where the copy can't be made. A new file needs none.
+fn way_without_copy(kind: ErrorKind, way: Way, is_old: bool) -> Option<Way>
+    ensures { result ≡ way_without_copy kind way is_old }
+{
+    match kind {
+        ErrorKind::PermissionDenied | ErrorKind::ReadOnlyFilesystem | ErrorKind::InvalidFilename
+            if is_old && way != Way::Elsewhere => Some(Way::Elsewhere),
+        _ => None,
     }
 }
 
@@ -143,107 +151,125 @@ fn ownership_of(metadata: &Metadata) -> Ownership {
 
 // The plan of a save in this way. A file that doesn't exist has nothing to keep.
 fn plan_of<F: OpenFile>(old: &Option<Metadata>, copy: &F, way: Way) -> SavePlan {
+    let old = old.as_ref().map(ownership_of);
+    let copy = copy.metadata().ok().map(|copy| ownership_of(&copy));
+    plan_by(old, copy, way)
+}
+
+// The same, by the file's ownership, and that of the copy if it could be read.
+fn plan_by(old: Option<Ownership>, copy: Option<Ownership>, way: Way) -> SavePlan
+    ensures { result ≡ plan_by old copy way }
+{
     let Some(old) = old else {
         return SavePlan::Beside;
     };
-    match (way, copy.metadata()) {
-        (Way::AsKept, Ok(copy)) => SavePlan::keeping(&ownership_of(old), &ownership_of(&copy)),
+    match (way, copy) {
+        (Way::AsKept, Some(copy)) => SavePlan::keeping(&old, &copy),
         _ => SavePlan::InPlace,
     }
 }
 
 // Makes the steps of a plan up to the first that fails, and returns true if none does, or false if
 // the file is saved then: its folder is synced after its bytes, and it has its name.
-fn make_steps<R: Files>(
-    rt: &R,
-    saving: &mut Saving<'_, R::File>,
-    plan: SavePlan,
-) -> Result<bool, Failure> {
-    for &step in plan.steps() {
-        if let Err(error) = make_step(rt, saving, step) {
-            if step == DiskStep::SyncFolder(SaveFile::File) {
-                return Ok(false);
-            }
-            if step.copy_is_removed() {
-                let _ = fs::remove_file(rt, saving.copy.name.as_str());
-            }
-            return Err(failure_at(step, &error));
-        }
+fn make_plan<M: MakesSteps<Step = DiskStep>>(maker: &mut M, plan: SavePlan) -> Result<bool, Failure>
+    ensures { IsPlanMade M.leads maker.old plan result maker.new }
+{
+    match make_all(maker, plan.steps()) {
+        Ok(()) => Ok(true),
+        Err(failed) => give_up(maker, failed.step, failed.error.kind()),
     }
-    Ok(true)
 }
 
-fn failure_at(step: DiskStep, error: &io::Error) -> Failure {
-    match (step, error.kind()) {
-        (
-            DiskStep::Rename,
-            ErrorKind::ResourceBusy | ErrorKind::CrossesDevices | ErrorKind::PermissionDenied,
-        ) => Failure {
-            trouble: trouble_of(error),
-            next: Some(Way::InPlace),
+// Ends a save in which this step failed.
+fn give_up<M: MakesSteps<Step = DiskStep>>(
+    maker: &mut M,
+    step: DiskStep,
+    kind: ErrorKind,
+) -> Result<bool, Failure>
+    ensures { IsGivenUp M.leads maker.old step kind result maker.new }
+{
+    if step == DiskStep::SyncFolder(SaveFile::File) {
+        return Ok(false);
+    }
+    if step.copy_is_removed() {
+        let _ = maker.make(DiskStep::Remove);
+    }
+    Err(failure_at(step, kind))
+}
+
+fn failure_at(step: DiskStep, kind: ErrorKind) -> Failure
+    ensures { result ≡ failure_at step kind }
+{
+    match step {
+        DiskStep::Rename => Failure {
+            trouble: trouble_of_kind(kind),
+            next: way_after_rename(kind),
         },
-        (
-            DiskStep::Write(SaveFile::File)
-            | DiskStep::SetMode(SaveFile::File)
-            | DiskStep::Sync(SaveFile::File),
-            _,
-        ) => Failure {
+        DiskStep::Write(SaveFile::File)
+        | DiskStep::SetMode(SaveFile::File)
+        | DiskStep::Sync(SaveFile::File) => Failure {
             trouble: Trouble::InPart,
             next: None,
         },
-        _ => failed(error),
+        _ => failed(kind),
     }
 }
 
-// Makes one step. The copy was made before, since the plan depends on it.
-fn make_step<R: Files>(rt: &R, saving: &mut Saving<'_, R::File>, step: DiskStep) -> io::Result<()> {
-    match step {
-        DiskStep::Create => Ok(()),
-        DiskStep::SyncFolder(SaveFile::File) => sync_folder(rt, folder_of(saving.target)),
-        DiskStep::SyncFolder(SaveFile::Copy) => sync_folder(
-            rt,
-            folder_of(saving.copy.name.as_str()),
-        ),
-        DiskStep::Rename => fs::rename(rt, saving.copy.name.as_str(), saving.target),
-        DiskStep::Remove => {
-            // The file is saved, so a copy that stays is no failure.
-            let _ = fs::remove_file(rt, saving.copy.name.as_str());
-            Ok(())
+// The way that is left where the copy can't take the file's name.
+fn way_after_rename(kind: ErrorKind) -> Option<Way>
+    ensures { result ≡ way_after_rename kind }
+{
+    match kind {
+        ErrorKind::ResourceBusy | ErrorKind::CrossesDevices | ErrorKind::PermissionDenied => {
+            Some(Way::InPlace)
         }
-        DiskStep::Grow
-        | DiskStep::Write(SaveFile::File)
-        | DiskStep::SetMode(SaveFile::File)
-        | DiskStep::Sync(SaveFile::File) => {
-            match &mut saving.file {
-                Some(file) => change_file(file, saving.text.as_bytes(), saving.old, step),
-                None => Ok(()),
+        _ => None,
+    }
+}
+
+impl<'a, R: Files> MakesSteps for Saving<'a, R, R::File> {
+    ghost use Rattle.textarea_editor.specs.Savings.{IsStepOfSaving};
+
+    type Step = DiskStep;
+
+    ghost leads = { IsStepOfSaving R.File.contents };
+
+    // The copy was made before, since the plan depends on it.
+    fn make(&mut self, step: DiskStep) -> io::Result<()> {
+        match step {
+            DiskStep::Create => Ok(()),
+            DiskStep::SyncFolder(SaveFile::File) => sync_folder(self.rt, folder_of(self.target)),
+            DiskStep::SyncFolder(SaveFile::Copy) => sync_folder(
+                self.rt,
+                folder_of(self.copy.name.as_str()),
+            ),
+            DiskStep::Rename => fs::rename(self.rt, self.copy.name.as_str(), self.target),
+            DiskStep::Remove => {
+                // The file is saved, so a copy that stays is no failure.
+                let _ = fs::remove_file(self.rt, self.copy.name.as_str());
+                Ok(())
             }
-        }
-        DiskStep::Write(SaveFile::Copy)
-        | DiskStep::SetMode(SaveFile::Copy)
-        | DiskStep::Sync(SaveFile::Copy) => {
-            change_copy(
-                &mut saving.copy.file,
-                saving.text.as_bytes(),
-                saving.old,
-                step,
-            )
+            DiskStep::Grow
+            | DiskStep::Write(SaveFile::File)
+            | DiskStep::SetMode(SaveFile::File)
+            | DiskStep::Sync(SaveFile::File) => {
+                match &mut self.file {
+                    Some(file) => change_file(file, self.text.as_bytes(), self.old, step),
+                    None => Ok(()),
+                }
+            }
+            DiskStep::Write(SaveFile::Copy) => self.copy.file.write_all(self.text.as_bytes()),
+            DiskStep::SetMode(SaveFile::Copy) => set_mode(&self.copy.file, self.old),
+            DiskStep::Sync(SaveFile::Copy) => self.copy.file.sync_all(),
         }
     }
 }
 
-// Makes a step that changes the copy.
-fn change_copy<F: OpenFile + Write>(
-    copy: &mut F,
-    text: &[u8],
-    old: &Option<Metadata>,
-    step: DiskStep,
-) -> io::Result<()> {
-    match (step, old) {
-        (DiskStep::Write(_), _) => copy.write_all(text),
-        (DiskStep::SetMode(_), Some(old)) => copy.set_permissions(old.permissions()),
-        (DiskStep::Sync(_), _) => copy.sync_all(),
-        _ => Ok(()),
+// Gives the copy the mode bits of the file, if there is one.
+fn set_mode<F: OpenFile>(copy: &F, old: &Option<Metadata>) -> io::Result<()> {
+    match old {
+        Some(old) => copy.set_permissions(old.permissions()),
+        None => Ok(()),
     }
 }
 

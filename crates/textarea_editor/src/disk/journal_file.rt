@@ -1,8 +1,14 @@
 //! The journal of a file on disk: beside the file, or in the user's folder for state where that
 //! can't be.
 
+ghost use Rattle.std.specs.Prelude.{◌≡◌, IfOk, string_bytes};
+ghost use Rattle.textarea_editor.specs.DiskNames.{journal_name};
+ghost use Rattle.textarea_editor.specs.MadeSteps.{AreMadeUpTo, IsRemoved};
+
 use super::carrying_out::sync_folder;
+use super::made_steps::{MakesSteps, make_all};
 use super::names::{folder_of, in_folder_of, last_part, state_folder, target_of};
+use std::alloc::{AllocError, Global};
 use std::fs::{File, OpenOptions, TryLockError};
 use std::io::{ErrorKind, Read, Write};
 use std::os::unix::fs::OpenOptionsExt;
@@ -89,38 +95,77 @@ impl JournalFile {
         name: &str,
         write: &JournalWrite,
     ) -> io::Result<()> {
-        for &step in write.steps {
-            self.make_step(rt, name, step, write.bytes.as_slice())?;
-        }
-        Ok(())
+        let bytes = write.bytes.as_slice();
+        let mut maker = JournalMaker {
+            rt,
+            name,
+            bytes,
+            open: self.open.take(),
+        };
+        let outcome = make_write(&mut maker, write.steps);
+        let JournalMaker { open, .. } = maker;
+        self.open = open;
+        outcome
     }
 
     /// Removes the open journal from the disk, if there is one.
     pub fn remove(&mut self, rt: &HostRuntime) {
-        for &step in JournalStep::removing() {
-            if self.make_step(rt, "", step, b"").is_err() {
-                break;
-            }
-        }
-        self.open = None;
+        let mut maker = JournalMaker {
+            rt,
+            name: "",
+            bytes: b"",
+            open: self.open.take(),
+        };
+        make_removal(&mut maker);
     }
+}
 
-    fn make_step(
-        &mut self,
-        rt: &HostRuntime,
-        name: &str,
-        step: JournalStep,
-        bytes: &[u8],
-    ) -> io::Result<()> {
+// What makes the steps of the journal of the file of this name. A write adds these bytes.
+#[derive(Drop)]
+struct JournalMaker<'a> {
+    rt: &'a HostRuntime,
+    name: &'a str,
+    bytes: &'a [u8],
+    open: Option<OpenJournal>,
+}
+
+impl<'a> MakesSteps for JournalMaker<'a> {
+    ghost use Rattle.textarea_editor.specs.JournalMakers.{IsStepOfJournal};
+
+    type Step = JournalStep;
+
+    ghost leads = { IsStepOfJournal };
+
+    fn make(&mut self, step: JournalStep) -> io::Result<()> {
         if step == JournalStep::Create {
-            self.open = Some(create(rt, name)?);
+            self.open = Some(create(self.rt, self.name)?);
             return Ok(());
         }
         match &mut self.open {
-            Some(open) => change(rt, open, step, bytes),
+            Some(open) => change(self.rt, open, step, self.bytes),
             None => Err(io::Error::from(ErrorKind::NotFound)),
         }
     }
+}
+
+// Makes the steps of a write in order, up to the first that fails.
+fn make_write<M: MakesSteps<Step = JournalStep>>(
+    maker: &mut M,
+    steps: &[JournalStep],
+) -> io::Result<()>
+    ensures { AreMadeUpTo M.leads maker.old steps.now result maker.new }
+{
+    match make_all(maker, steps) {
+        Ok(()) => Ok(()),
+        Err(failed) => Err(failed.error),
+    }
+}
+
+// Makes the steps of a removal in order, up to the first that fails.
+fn make_removal<M: MakesSteps<Step = JournalStep>>(maker: &mut M)
+    ensures { IsRemoved M.leads maker.old maker.new }
+{
+    let _ = make_all(maker, JournalStep::removing());
 }
 
 // Makes a step on an open journal.
@@ -185,12 +230,18 @@ fn lock(file: &File) -> io::Result<()> {
     }
 }
 
+// The name of the journal of a file with this name in its folder.
+fn journal_name(alloc: Global, last: &str) -> Result<String, AllocError>
+    ensures { IfOk result (λ name. string_bytes name ≡ journal_name last.now) }
+{
+    format!(in alloc; ".{last}.taedit-journal")
+}
+
 // The name of the journal of a file, in the file's folder.
 fn beside(rt: &HostRuntime, name: &str) -> io::Result<String> {
     let alloc = rt.alloc();
     let target = target_of(rt, name)?;
-    let last = last_part(target.as_str());
-    let journal = format!(in alloc; ".{last}.taedit-journal")?;
+    let journal = journal_name(alloc, last_part(target.as_str()))?;
     in_folder_of(alloc, target.as_str(), journal.as_str())
 }
 

@@ -1,5 +1,9 @@
 // The copy: a new file, under a name that no file has.
+ghost use Rattle.std.specs.Prelude.{◌≡◌, IfOk, string_bytes};
+ghost use Rattle.textarea_editor.specs.DiskNames.{hidden_name};
+
 use super::names::{in_folder_of, last_part, state_folder, temporary_folder};
+use std::alloc::{AllocError, Global};
 use std::fs::OpenOptions;
 use std::io::ErrorKind;
 use std::os::unix::fs::OpenOptionsExt;
@@ -24,8 +28,7 @@ pub(super) fn create_beside<R: Files + AllocGlobal>(
     mode: u32,
 ) -> io::Result<NewFile<R::File>> {
     let alloc = rt.alloc();
-    let last = last_part(target);
-    let prefix = format!(in alloc; ".{last}")?;
+    let prefix = hidden_name(alloc, last_part(target))?;
     let long = in_folder_of(alloc, target, prefix.as_str())?;
     match create_free(rt, long.as_str(), mode) {
         Err(error) if error.kind() == ErrorKind::InvalidFilename => {
@@ -70,6 +73,13 @@ fn create_in<R: Files + AllocGlobal>(
     let last = last_part(target);
     let name = format!(in alloc; "{folder}/{last}")?;
     create_beside(rt, name.as_str(), 0o600)
+}
+
+// The name of a file with a dot in front.
+fn hidden_name(alloc: Global, last: &str) -> Result<String, AllocError>
+    ensures { IfOk result (λ name. string_bytes name ≡ hidden_name last.now) }
+{
+    format!(in alloc; ".{last}")
 }
 
 // Makes a file whose name begins so and that isn't there yet.

@@ -23,28 +23,34 @@ impl Draft {
             cell.x cell.y) self.old self.new) }
     {
         match click {
-            Some(Click::To { selects }) => self.click_to(cell, selects, false),
+            Some(Click::To { selects }) => self.click_to(cell, selects, None),
             Some(Click::Whole(extent)) => self.select_at(cell, extent),
-            Some(Click::Below) => self.click_to(cell, true, true),
+            Some(Click::Above) => self.click_to(cell, true, Some(CursorMove::Up)),
+            Some(Click::Below) => self.click_to(cell, true, Some(CursorMove::Down)),
             None => Ok(()),
         }
     }
 
-    // Moves the cursor to what a cell shows, if it shows a position, or to the row below that, and
-    // selects up to there or drops the selection.
-    fn click_to(&mut self, cell: Position, selects: bool, is_below: bool) -> Result<(), AllocError>
+    // Moves the cursor to what a cell shows, if it shows a position, or on to the row above or below
+    // that, and selects up to there or drops the selection.
+    fn click_to(
+        &mut self,
+        cell: Position,
+        selects: bool,
+        further: Option<CursorMove>,
+    ) -> Result<(), AllocError>
         ensures ok { OnOk result
-            (MakesSome (IsClick selects is_below (is_selecting self.old.area)
+            (MakesSome (IsClick selects further (is_selecting self.old.area)
             (widget_of self.old.area) cell.x cell.y) self.old self.new) }
         ensures err { OnErr result
-            (FailsInSome (IsClick selects is_below (is_selecting self.old.area)
+            (FailsInSome (IsClick selects further (is_selecting self.old.area)
             (widget_of self.old.area) cell.x cell.y) self.old self.new) }
     {
         let Some(place) = self.area().cursor_at_position(cell)? else {
             return Ok(());
         };
         self.select(selects)?;
-        self.move_to_or_below(place, is_below)
+        self.move_on(place, further)
     }
 
     // Opens a selection, unless one is open, or drops it.
@@ -62,16 +68,19 @@ impl Draft {
         Ok(())
     }
 
-    // Moves the cursor to the position (row, column), or to the visual row below that.
-    fn move_to_or_below(&mut self, place: (usize, usize), is_below: bool) -> Result<(), AllocError>
-        ensures ok { OnOk result (Makes self.old (to_calls is_below place) self.new) }
-        ensures err { OnErr result (FailsIn self.old (to_calls is_below place) self.new) }
+    // Moves the cursor to the position (row, column), or on to the visual row above or below that.
+    fn move_on(
+        &mut self,
+        place: (usize, usize),
+        further: Option<CursorMove>,
+    ) -> Result<(), AllocError>
+        ensures ok { OnOk result (Makes self.old (to_calls further place) self.new) }
+        ensures err { OnErr result (FailsIn self.old (to_calls further place) self.new) }
     {
-        if is_below {
-            self.make(&[Call::GoTo(place), Call::Move(CursorMove::Down)])?;
-        } else {
-            self.make(&[Call::GoTo(place)])?;
-        }
+        match further {
+            Some(further) => self.make(&[Call::GoTo(place), Call::Move(further)])?,
+            None => self.make(&[Call::GoTo(place)])?,
+        };
         Ok(())
     }
 

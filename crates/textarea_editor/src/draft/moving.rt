@@ -1,9 +1,10 @@
 //! Moves of the cursor to a position.
-ghost use Rattle.std.specs.Prelude.{◌∷◌, [], Some, OnErr, OnOk};
+ghost use Rattle.std.specs.Prelude.{◌≡◌, ◌∷◌, [], IfOk, Some, OnErr, OnOk};
 ghost use Rattle.textarea_calls.specs.declared.call.Call.TheVariants.{GoTo};
 ghost use Rattle.textarea_editor.specs.Draft.{FailsIn, Makes};
 ghost use Rattle.textarea_editor.specs.EventCalls.{find_calls, look_calls, row_calls};
 ghost use Rattle.textarea_editor.specs.Patterns.{pattern_call, search_call};
+ghost use Rattle.textarea_editor.specs.SearchMessages.{has_match, searches};
 
 use crate::draft::Draft;
 use crate::pattern::pattern_of;
@@ -42,10 +43,11 @@ impl Draft {
             (Makes self.old (look_calls origin (search_call options text.now)) self.new) }
         ensures err { OnErr result
             (FailsIn self.old (look_calls origin (search_call options text.now)) self.new) }
+        ensures found { IfOk result (λ found. found ≡ has_match self.new.area) }
     {
         self.move_to(origin)?;
         self.light(options, text)?;
-        self.make(&[Call::SearchForward(true)])
+        self.search(Call::SearchForward(true))
     }
 
     /// Returns whether the pattern is that of a text, by these options, and was not rejected. If memory
@@ -72,6 +74,7 @@ impl Draft {
             (search_call options text.now ∷ find_calls is_forward) self.new) }
         ensures err { OnErr result (FailsIn self.old
             (search_call options text.now ∷ find_calls is_forward) self.new) }
+        ensures found { IfOk result (λ found. found ≡ has_match self.new.area) }
     {
         self.light(options, text)?;
         self.find(is_forward)
@@ -107,12 +110,12 @@ impl Draft {
     pub fn find(&mut self, is_forward: bool) -> Result<bool, AllocError>
         ensures ok { OnOk result (Makes self.old (find_calls is_forward) self.new) }
         ensures err { OnErr result (FailsIn self.old (find_calls is_forward) self.new) }
+        ensures found { IfOk result (λ found. found ≡ has_match self.new.area) }
     {
-        let call = if is_forward {
-            Call::SearchForward(false)
+        if is_forward {
+            self.search(Call::SearchForward(false))
         } else {
-            Call::SearchBack(false)
-        };
-        self.make(&[call])
+            self.search(Call::SearchBack(false))
+        }
     }
 }

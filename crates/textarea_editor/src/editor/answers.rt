@@ -1,10 +1,11 @@
 // Questions that are answered by one key.
-ghost use Rattle.std.specs.Prelude.{◌≡◌, IfOk, OnErr, OnOk, is_some};
+ghost use Rattle.std.specs.Prelude.{◌≡◌, is_some};
 ghost use Rattle.textarea_editor.specs.Controls.{after_reply, left};
-ghost use Rattle.textarea_editor.specs.Editor.{MayQuit};
-ghost use Rattle.textarea_editor.specs.Effects.{Carries, IsAnswered, optional_bytes};
+ghost use Rattle.textarea_editor.specs.Effects.{IsAnswered, optional_bytes};
+ghost use Rattle.textarea_editor.specs.Names.{KeepsNames, LeavesNames, NamesByReply, names_of};
 ghost use Rattle.textarea_editor.specs.Replies.{reply_of};
-ghost use Rattle.textarea_editor.specs.SaveEnds.{name_left};
+ghost use Rattle.textarea_editor.specs.Sizes.{KeepsShown, shown_by};
+ghost use Rattle.textarea_editor.specs.StepOf.{IsNamingStepBeside};
 ghost use Rattle.textarea_editor.specs.declared.focus.Focus.TheVariants as focus;
 
 use super::Editor;
@@ -22,16 +23,13 @@ impl Editor {
         input: &Input,
     ) -> Result<Effect, AllocError>
         requires { self.old.controls.focus ≡ focus.Question question }
-        ensures draft { self.new.draft ≡ self.old.draft }
-        ensures carries { IfOk result
-            (Carries (MayQuit self.old self.new.draft) self.new.draft.area self.new.line_end) }
-        ensures effect { IfOk result (IsAnswered question (reply_of input.now)
-            (is_some self.old.name) (optional_bytes self.old.name)) }
-        ensures end { self.new.line_end ≡ self.old.line_end }
-        ensures controls { OnOk result (self.new.controls ≡ after_reply question
-            (reply_of input.now) self.old.controls (is_some self.old.name)
-            self.old.draft.area.document.cursor) }
-        ensures kept { OnErr result (self.new.controls ≡ self.old.controls) }
+        ensures { IsNamingStepBeside self.old
+            (IsAnswered question (reply_of input.now) (is_some self.old.name) (optional_bytes
+            self.old.name))
+            (λ controls. controls ≡ after_reply question (reply_of input.now) self.old.controls
+            (is_some self.old.name) self.old.draft.area.document.cursor)
+            (NamesByReply question (reply_of input.now) (names_of self.old))
+            result self.new }
     {
         match (question, reply_of(input)) {
             (Question::SaveFirst, KeyReply::Yes) => {
@@ -76,7 +74,8 @@ impl Editor {
         ensures draft { self.new.draft ≡ self.old.draft }
         ensures end { self.new.line_end ≡ self.old.line_end }
         ensures controls { self.new.controls ≡ left self.old.controls }
-        ensures name { self.new.name ≡ name_left asked self.old.former_name self.old.name }
+        ensures names { LeavesNames asked (names_of self.old) (names_of self.new) }
+        ensures shown { KeepsShown (shown_by self.old) (shown_by self.new) }
     {
         match asked {
             Asked::Name => self.restore_name(),
@@ -92,7 +91,8 @@ impl Editor {
         ensures draft { self.new.draft ≡ self.old.draft }
         ensures end { self.new.line_end ≡ self.old.line_end }
         ensures controls { self.new.controls ≡ self.old.controls }
-        ensures name { self.new.name ≡ self.old.name }
+        ensures names { KeepsNames (names_of self.old) (names_of self.new) }
+        ensures shown { KeepsShown (shown_by self.old) (shown_by self.new) }
     {
         if let Ok(text) = self.field.lines()[0].clone() {
             self.searched = Some(text);
@@ -104,7 +104,8 @@ impl Editor {
         ensures draft { self.new.draft ≡ self.old.draft }
         ensures end { self.new.line_end ≡ self.old.line_end }
         ensures controls { self.new.controls ≡ left self.old.controls }
-        ensures name { self.new.name ≡ self.old.name }
+        ensures names { KeepsNames (names_of self.old) (names_of self.new) }
+        ensures shown { KeepsShown (shown_by self.old) (shown_by self.new) }
     {
         self.controls.focus = Focus::Text;
         self.controls.ends_when_saved = false;

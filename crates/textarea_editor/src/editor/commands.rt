@@ -1,14 +1,15 @@
 // What the commands of the table do.
-ghost use Rattle.std.specs.Prelude.{◌≡◌, ◌∷◌, [], IfOk, IsTrue, OnErr, OnOk, is_some};
+ghost use Rattle.std.specs.Prelude.{◌≡◌, ◌∷◌, [], false, IsTrue, OnOk, is_some};
 ghost use Rattle.std.specs.List.{list_all};
 ghost use Rattle.textarea_calls.specs.declared.call.Call.TheVariants as call;
 ghost use Rattle.textarea_editor.specs.ControlCharacters.{IsCountShown};
 ghost use Rattle.textarea_editor.specs.Controls.{after_command, prompt_opened};
-ghost use Rattle.textarea_editor.specs.Draft.{FailsIn, Makes, is_made, plain_calls};
-ghost use Rattle.textarea_editor.specs.Editor.{MayQuit};
+ghost use Rattle.textarea_editor.specs.Draft.{is_made, plain_calls};
 ghost use Rattle.textarea_editor.specs.Effects.{Carries};
 ghost use Rattle.textarea_editor.specs.EventEffects.{IsCommandEffect, IsCopied, IsNothing, IsSelectionCopied};
 ghost use Rattle.textarea_editor.specs.EventCalls.{command_calls, control_calls, find_calls, indent_calls, is_selecting, numbers_call, wrap_mode};
+ghost use Rattle.textarea_editor.specs.SearchMessages.{has_match, search_message};
+ghost use Rattle.textarea_editor.specs.StepOf.{IsKept, IsStepBeside, IsStepBy};
 
 use super::Editor;
 use crate::control_characters::count_message;
@@ -28,19 +29,14 @@ const CONTROLS: &str = "[[:cntrl:]&&[^\t]]";
 impl Editor {
     // Does what a command says.
     pub(super) fn command(&mut self, command: KeyCommand) -> Result<Effect, AllocError>
-        ensures ok { OnOk result (Makes self.old.draft (command_calls self.old.controls.wraps
-            self.old.controls.numbers (is_selecting self.old.draft.area) command) self.new.draft) }
-        ensures err { OnErr result (FailsIn self.old.draft (command_calls self.old.controls.wraps
-            self.old.controls.numbers (is_selecting self.old.draft.area) command) self.new.draft) }
-        ensures carries { IfOk result
-            (Carries (MayQuit self.old self.new.draft) self.new.draft.area self.new.line_end) }
-        ensures effect { IfOk result (IsCommandEffect self.old.name self.new.draft.is_changed
-            (is_selecting self.old.draft.area) command) }
-        ensures end { self.new.line_end ≡ self.old.line_end }
-        ensures controls { OnOk result (self.new.controls ≡ after_command self.old.controls
-            (is_some self.old.name) self.new.draft.is_changed
-            self.old.draft.area.document.cursor command) }
-        ensures kept { OnErr result (self.new.controls ≡ self.old.controls) }
+        ensures { IsStepBy self.old
+            (command_calls self.old.controls.wraps self.old.controls.numbers (is_selecting
+            self.old.draft.area) command)
+            (IsCommandEffect self.old.name self.new.draft.is_changed (is_selecting
+            self.old.draft.area) command)
+            (λ controls. controls ≡ after_command self.old.controls (is_some self.old.name)
+            self.new.draft.is_changed self.old.draft.area.document.cursor command)
+            result self.new }
     {
         match command {
             KeyCommand::Save => self.save(false),
@@ -83,27 +79,19 @@ impl Editor {
     // Makes calls on the draft.
     pub(super) fn make(&mut self, calls: &[Call<'_>]) -> Result<Effect, AllocError>
         requires { IsTrue (list_all is_made calls.now) }
-        ensures ok { OnOk result (Makes self.old.draft (plain_calls calls.now) self.new.draft) }
-        ensures err { OnErr result (FailsIn self.old.draft (plain_calls calls.now) self.new.draft) }
-        ensures carries { IfOk result
-            (Carries (MayQuit self.old self.new.draft) self.new.draft.area self.new.line_end) }
-        ensures effect { IfOk result IsNothing }
-        ensures end { self.new.line_end ≡ self.old.line_end }
-        ensures controls { self.new.controls ≡ self.old.controls }
+        ensures { IsStepBy self.old
+            (plain_calls calls.now)
+            IsNothing (IsKept self.old) result self.new }
     {
         self.draft.make(calls)?;
         Ok(Effect::Nothing)
     }
 
     fn open_prompt(&mut self, asked: Asked) -> Result<Effect, AllocError>
-        ensures draft { self.new.draft ≡ self.old.draft }
-        ensures carries { IfOk result
-            (Carries (MayQuit self.old self.new.draft) self.new.draft.area self.new.line_end) }
-        ensures effect { IfOk result IsNothing }
-        ensures end { self.new.line_end ≡ self.old.line_end }
-        ensures controls { OnOk result (self.new.controls ≡ prompt_opened self.old.controls
-            self.old.draft.area.document.cursor asked) }
-        ensures kept { OnErr result (self.new.controls ≡ self.old.controls) }
+        ensures { IsStepBeside self.old IsNothing
+            (λ controls. controls ≡ prompt_opened self.old.controls
+            self.old.draft.area.document.cursor asked)
+            result self.new }
     {
         self.ask(asked)?;
         Ok(Effect::Nothing)
@@ -111,16 +99,11 @@ impl Editor {
 
     // Copies the selected text, if a selection is open, and gives it to the program.
     fn copy(&mut self) -> Result<Effect, AllocError>
-        ensures ok { OnOk result (Makes self.old.draft (command_calls self.old.controls.wraps
-            self.old.controls.numbers (is_selecting self.old.draft.area) KeyCommand.Copy) self.new.draft) }
-        ensures err { OnErr result (FailsIn self.old.draft (command_calls self.old.controls.wraps
-            self.old.controls.numbers (is_selecting self.old.draft.area) KeyCommand.Copy) self.new.draft) }
-        ensures carries { IfOk result
-            (Carries (MayQuit self.old self.new.draft) self.new.draft.area self.new.line_end) }
-        ensures effect { IfOk result
-            (IsSelectionCopied (is_selecting self.old.draft.area)) }
-        ensures end { self.new.line_end ≡ self.old.line_end }
-        ensures controls { self.new.controls ≡ self.old.controls }
+        ensures { IsStepBy self.old
+            (command_calls self.old.controls.wraps self.old.controls.numbers (is_selecting
+            self.old.draft.area) KeyCommand.Copy)
+            (IsSelectionCopied (is_selecting self.old.draft.area))
+            (IsKept self.old) result self.new }
     {
         if !self.draft.area().is_selecting() {
             return Ok(Effect::Nothing);
@@ -131,16 +114,11 @@ impl Editor {
 
     // Removes the selected text, if a selection is open, and gives it to the program.
     fn cut(&mut self) -> Result<Effect, AllocError>
-        ensures ok { OnOk result (Makes self.old.draft (command_calls self.old.controls.wraps
-            self.old.controls.numbers (is_selecting self.old.draft.area) KeyCommand.Cut) self.new.draft) }
-        ensures err { OnErr result (FailsIn self.old.draft (command_calls self.old.controls.wraps
-            self.old.controls.numbers (is_selecting self.old.draft.area) KeyCommand.Cut) self.new.draft) }
-        ensures carries { IfOk result
-            (Carries (MayQuit self.old self.new.draft) self.new.draft.area self.new.line_end) }
-        ensures effect { IfOk result
-            (IsSelectionCopied (is_selecting self.old.draft.area)) }
-        ensures end { self.new.line_end ≡ self.old.line_end }
-        ensures controls { self.new.controls ≡ self.old.controls }
+        ensures { IsStepBy self.old
+            (command_calls self.old.controls.wraps self.old.controls.numbers (is_selecting
+            self.old.draft.area) KeyCommand.Cut)
+            (IsSelectionCopied (is_selecting self.old.draft.area))
+            (IsKept self.old) result self.new }
     {
         if !self.draft.area().is_selecting() {
             return Ok(Effect::Nothing);
@@ -151,15 +129,9 @@ impl Editor {
 
     // Inserts a tab, or indents the lines of the selection, if one is open.
     fn indent(&mut self) -> Result<Effect, AllocError>
-        ensures ok { OnOk result (Makes self.old.draft
-            (indent_calls (is_selecting self.old.draft.area)) self.new.draft) }
-        ensures err { OnErr result (FailsIn self.old.draft
-            (indent_calls (is_selecting self.old.draft.area)) self.new.draft) }
-        ensures carries { IfOk result
-            (Carries (MayQuit self.old self.new.draft) self.new.draft.area self.new.line_end) }
-        ensures effect { IfOk result IsNothing }
-        ensures end { self.new.line_end ≡ self.old.line_end }
-        ensures controls { self.new.controls ≡ self.old.controls }
+        ensures { IsStepBy self.old
+            (indent_calls (is_selecting self.old.draft.area))
+            IsNothing (IsKept self.old) result self.new }
     {
         if self.draft.area().is_selecting() {
             self.make(&[Call::IndentLines])
@@ -180,31 +152,25 @@ impl Editor {
         }
     }
 
-    // Moves to the next or the previous match, and shows a message if there is none.
+    // Moves to the next or the previous match, and shows a message if there is none, or if the search
+    // went past an end of the text.
     fn find(&mut self, is_forward: bool) -> Result<Effect, AllocError>
-        ensures ok { OnOk result (Makes self.old.draft (find_calls is_forward) self.new.draft) }
-        ensures err { OnErr result (FailsIn self.old.draft (find_calls is_forward) self.new.draft) }
-        ensures carries { IfOk result
-            (Carries (MayQuit self.old self.new.draft) self.new.draft.area self.new.line_end) }
-        ensures effect { IfOk result IsNothing }
-        ensures end { self.new.line_end ≡ self.old.line_end }
-        ensures controls { self.new.controls ≡ self.old.controls }
+        ensures step { IsStepBy self.old
+            (find_calls is_forward)
+            IsNothing (IsKept self.old) result self.new }
+        ensures message { OnOk result (self.new.message ≡ search_message is_forward false
+            self.old.draft.area.document.cursor self.new.draft.area.document.cursor
+            (has_match self.new.draft.area) self.old.message) }
     {
-        if !self.draft.find(is_forward)? {
-            self.message = Message::NoMatch;
-        }
+        let from = self.draft.area().cursor();
+        let is_found = self.draft.find(is_forward)?;
+        self.show_match(is_forward, false, from, is_found);
         Ok(Effect::Nothing)
     }
 
     // Moves to the next control character, and shows how many there are.
     fn find_control(&mut self) -> Result<Effect, AllocError>
-        ensures ok { OnOk result (Makes self.old.draft control_calls self.new.draft) }
-        ensures err { OnErr result (FailsIn self.old.draft control_calls self.new.draft) }
-        ensures carries { IfOk result
-            (Carries (MayQuit self.old self.new.draft) self.new.draft.area self.new.line_end) }
-        ensures effect { IfOk result IsNothing }
-        ensures end { self.new.line_end ≡ self.old.line_end }
-        ensures controls { self.new.controls ≡ self.old.controls }
+        ensures step { IsStepBy self.old control_calls IsNothing (IsKept self.old) result self.new }
         ensures message { OnOk result
             (IsCountShown self.new.draft.area Message.NoMatch self.new.message) }
     {
@@ -215,17 +181,11 @@ impl Editor {
 
     // Wraps long lines, or no longer does.
     fn set_wraps(&mut self, wraps: bool) -> Result<Effect, AllocError>
-        ensures ok { OnOk result
-            (Makes self.old.draft (call.SetWrapMode (wrap_mode wraps) ∷ []) self.new.draft) }
-        ensures err { OnErr result
-            (FailsIn self.old.draft (call.SetWrapMode (wrap_mode wraps) ∷ []) self.new.draft) }
-        ensures carries { IfOk result
-            (Carries (MayQuit self.old self.new.draft) self.new.draft.area self.new.line_end) }
-        ensures effect { IfOk result IsNothing }
-        ensures end { self.new.line_end ≡ self.old.line_end }
-        ensures controls { OnOk result
-            (self.new.controls ≡ record self.old.controls { wraps = wraps }) }
-        ensures kept { OnErr result (self.new.controls ≡ self.old.controls) }
+        ensures { IsStepBy self.old
+            (call.SetWrapMode (wrap_mode wraps) ∷ [])
+            IsNothing
+            (λ controls. controls ≡ record self.old.controls { wraps = wraps })
+            result self.new }
     {
         self.draft.make(&[Call::SetWrapMode(wrap_mode(wraps))])?;
         self.controls.wraps = wraps;
@@ -234,17 +194,11 @@ impl Editor {
 
     // Shows the line numbers, or hides them.
     fn set_numbers(&mut self, numbers: bool) -> Result<Effect, AllocError>
-        ensures ok { OnOk result
-            (Makes self.old.draft (numbers_call numbers ∷ []) self.new.draft) }
-        ensures err { OnErr result
-            (FailsIn self.old.draft (numbers_call numbers ∷ []) self.new.draft) }
-        ensures carries { IfOk result
-            (Carries (MayQuit self.old self.new.draft) self.new.draft.area self.new.line_end) }
-        ensures effect { IfOk result IsNothing }
-        ensures end { self.new.line_end ≡ self.old.line_end }
-        ensures controls { OnOk result
-            (self.new.controls ≡ record self.old.controls { numbers = numbers }) }
-        ensures kept { OnErr result (self.new.controls ≡ self.old.controls) }
+        ensures { IsStepBy self.old
+            (numbers_call numbers ∷ [])
+            IsNothing
+            (λ controls. controls ≡ record self.old.controls { numbers = numbers })
+            result self.new }
     {
         self.draft.make(&[numbers_call(numbers)])?;
         self.controls.numbers = numbers;

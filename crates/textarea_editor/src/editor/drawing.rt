@@ -1,9 +1,8 @@
 // Drawing of a frame: the text or the help, and below it the status row.
-ghost use Rattle.std.specs.Prelude.{◌≡◌, ◌≤◌, ◌-◌, IfOk, OnOk, length, string_bytes};
-ghost use Rattle.std.specs.Str.{chars};
+ghost use Rattle.std.specs.Prelude.{◌≡◌, ◌+◌, ◌-◌, IfOk, OnOk, string_bytes};
 ghost use Rattle.textarea_editor.specs.Editor.{IsScreenArea, ShowsHelp, controls_of, draft_of, end_of, field_of, screen_columns_of, screen_rows_of};
 ghost use Rattle.textarea_editor.specs.Screen.{IsFrameCaret, IsPainted};
-ghost use Rattle.textarea_editor.specs.StatusRow.{IsAskedBefore, IsAskedInLast, IsAskedInRow, at_left, is_from, line_of_words, row_style};
+ghost use Rattle.textarea_editor.specs.StatusRow.{IsAskedBefore, IsAskedInLast, IsAskedInRow, IsDrawnIn, at_left, is_from, line_of_words, row_style};
 ghost use Rattle.textarea_paint.specs.Row.{row_cell};
 ghost use Rattle.textarea_screen.specs.Buffer.{Changes, KeepsOutside};
 ghost use Rattle.textarea_screen.specs.Rect.{contains};
@@ -12,6 +11,7 @@ ghost use Rattle.tui_textarea.specs.Rendered.{IsDrawn};
 
 use super::Editor;
 use crate::focus::Focus;
+use crate::shortened::columns_of;
 use std::alloc::AllocError;
 use textarea_paint::paint::{RowArea, draw_row};
 use textarea_screen::screen::{Alignment, Buffer, Line, Modifier, Position, Rect, Style};
@@ -111,15 +111,20 @@ impl Editor {
 
     // Draws the words of the status row, and returns the area of the prompt's text.
     fn draw_words(&self, row: Rect, buffer: &mut Buffer) -> Result<Rect, AllocError>
-        ensures { IfOk result (λ field. IsAskedBefore self.now row field.x buffer.new) }
+        ensures { IfOk result (λ field. IsAskedBefore self.now row field.x (field.x + field.width)
+            buffer.new) }
     {
         let alloc = self.allocator();
         buffer.set_style(row, row_style());
-        let left = self.left_text(alloc, usize::from(row.width))?;
-        let left_columns = columns_of(left.as_str());
+        let columns = usize::from(row.width);
+        let left = self.left_text(alloc, columns)?;
+        let left_words = left.as_str();
+        let left_columns = columns_of(left_words);
         let room = usize::from(row.width.saturating_sub(left_columns));
         let right = self.right_text(alloc, room)?;
-        let end = row.width.saturating_sub(columns_of(right.as_str()));
+        let right_words = right.as_str();
+        let right_columns = columns_of(right_words);
+        let end = row.width.saturating_sub(right_columns);
         let begin = left_columns.min(end);
         let left_area = Rect::new(0, row.y, end, row.height);
         draw_part(buffer, left_area, left)?;
@@ -146,29 +151,11 @@ fn row_style() -> Style
     Style::default().add_modifier(Modifier::REVERSED)
 }
 
-// The number of characters of a text, which for those of the status row is mostly that of columns.
-fn columns_of(text: &str) -> u16
-    ensures few { length (chars text.now) ≤ 65535 → result ≡ length (chars text.now) }
-    ensures many { 65535 ≤ length (chars text.now) → result ≡ 65535 }
-{
-    let characters = character_count(text);
-    if characters < 65535 {
-        characters as u16
-    } else {
-        65535
-    }
-}
-
-#[tactic(auto, using(std::proofs::lemmas::Str::chars_from_encodes))]
-fn character_count(text: &str) -> usize
-    ensures { result ≡ length (chars text.now) }
-{
-    text.chars().count()
-}
-
 // Draws words into a row, from a column on.
 fn draw_from(buffer: &mut Buffer, row: Rect, column: u16, text: String) -> Result<(), AllocError>
-    ensures { OnOk result (KeepsOutside (is_from column) buffer.old buffer.new) }
+    ensures keeps { OnOk result (KeepsOutside (is_from column) buffer.old buffer.new) }
+    ensures drawn { OnOk result (IsDrawnIn (string_bytes text) row column row.width row.width
+        buffer.new) }
 {
     let area = Rect::new(column, row.y, row.width.saturating_sub(column), row.height);
     draw_part(buffer, area, text)

@@ -1,14 +1,15 @@
 // What an event does, by what has the focus.
-ghost use Rattle.std.specs.Prelude.{◌≡◌, ◌⊎◌, ◌∷◌, [], false, IfOk, OnErr, OnOk, is_some};
-ghost use Rattle.textarea_calls.specs.declared.call.Call.TheVariants.{SetNow};
+ghost use Rattle.std.specs.Prelude.{◌≡◌, false, is_some};
 ghost use Rattle.textarea_editor.specs.Controls.{IsAfterEvent, IsAfterInput, after_help_key};
-ghost use Rattle.textarea_editor.specs.Draft.{FailsIn, FailsInAsked, FailsInSome, MakesSome};
-ghost use Rattle.textarea_editor.specs.Editor.{MayQuit};
+ghost use Rattle.textarea_editor.specs.Draft.{FailsInSome, MakesSome};
 ghost use Rattle.textarea_editor.specs.Effects.{Carries};
 ghost use Rattle.textarea_editor.specs.EventEffects.{IsEventEffect, IsInputEffect, IsNothing, help_effect};
 ghost use Rattle.textarea_editor.specs.EventCalls.{IsEvent, IsInput, IsPaste, is_selecting};
-ghost use Rattle.textarea_editor.specs.HelpKeys.{IsHelpAfter, IsHelpScrolled, help_key, scrolls_past_end, passes_last_rows};
-ghost use Rattle.textarea_editor.specs.Steps.{IsTimed};
+ghost use Rattle.textarea_editor.specs.HelpKeys.{IsHelpAfter, IsHelpScrolled, help_key, passes_last_rows, scrolls_past_end};
+ghost use Rattle.textarea_editor.specs.Names.{KeepsNames, NamesByEvent, NamesByInput, names_of};
+ghost use Rattle.textarea_editor.specs.Sizes.{ShownByEvent, ShownByInput, shown_by};
+ghost use Rattle.textarea_editor.specs.StepOf.{IsDone, IsKept, IsStepOf};
+ghost use Rattle.textarea_editor.specs.Steps.{FailsTimed, IsTimed};
 ghost use Rattle.textarea_view.specs.Scrolled.{scrolled_by};
 ghost use Rattle.tui_textarea.specs.Search.{match_count};
 
@@ -28,20 +29,17 @@ use tui_textarea::TextArea;
 impl Editor {
     // Sets the time, and takes an event.
     pub(super) fn try_step(&mut self, now: Duration, event: &Event) -> Result<Effect, AllocError>
-        ensures ok { OnOk result
-            (MakesSome (IsTimed self.old now event.now) self.old.draft self.new.draft) }
-        ensures err { OnErr result (FailsIn self.old.draft (SetNow now ∷ []) self.new.draft
-            ⊎ FailsInAsked (IsTimed self.old now event.now) self.old.draft self.new.draft) }
-        ensures carries { IfOk result
-            (Carries (MayQuit self.old self.new.draft) self.new.draft.area self.new.line_end) }
-        ensures effect { IfOk result (IsEventEffect self.old.controls self.old.name
-            self.new.draft.is_changed (is_selecting self.old.draft.area) self.old.field event.now) }
-        ensures end { self.new.line_end ≡ self.old.line_end }
-        ensures controls { OnOk result (IsAfterEvent self.old.controls (is_some self.old.name)
-            self.new.draft.is_changed self.old.draft.area.document.cursor
-            (match_count self.old.draft.area) self.old.field now event.now
-            self.new.controls) }
-        ensures kept { OnErr result (self.new.controls ≡ self.old.controls) }
+        ensures { IsDone self.old
+            (MakesSome (IsTimed self.old now event.now) self.old.draft)
+            (FailsTimed self.old now event.now)
+            (IsEventEffect self.old.controls self.old.name self.new.draft.is_changed (is_selecting
+            self.old.draft.area) self.old.field event.now)
+            (IsAfterEvent self.old.controls (is_some self.old.name) self.new.draft.is_changed
+            self.old.draft.area.document.cursor (match_count self.old.draft.area) self.old.field now
+            event.now)
+            (NamesByEvent self.old.controls.focus event.now self.old.field (names_of self.old))
+            (ShownByEvent self.old.controls.focus event.now (shown_by self.old))
+            result self.new }
     {
         self.draft.set_time(now);
         self.take(now, event)
@@ -49,20 +47,17 @@ impl Editor {
 
     // Takes an event that came at this time.
     fn take(&mut self, now: Duration, event: &Event) -> Result<Effect, AllocError>
-        ensures ok { OnOk result (MakesSome (IsEvent self.old self.old.draft.area now event.now)
-            self.old.draft self.new.draft) }
-        ensures err { OnErr result (FailsInSome (IsEvent self.old self.old.draft.area now event.now)
-            self.old.draft self.new.draft) }
-        ensures carries { IfOk result
-            (Carries (MayQuit self.old self.new.draft) self.new.draft.area self.new.line_end) }
-        ensures effect { IfOk result (IsEventEffect self.old.controls self.old.name
-            self.new.draft.is_changed (is_selecting self.old.draft.area) self.old.field event.now) }
-        ensures end { self.new.line_end ≡ self.old.line_end }
-        ensures controls { OnOk result (IsAfterEvent self.old.controls (is_some self.old.name)
-            self.new.draft.is_changed self.old.draft.area.document.cursor
-            (match_count self.old.draft.area) self.old.field now event.now
-            self.new.controls) }
-        ensures kept { OnErr result (self.new.controls ≡ self.old.controls) }
+        ensures { IsDone self.old
+            (MakesSome (IsEvent self.old self.old.draft.area now event.now) self.old.draft)
+            (FailsInSome (IsEvent self.old self.old.draft.area now event.now) self.old.draft)
+            (IsEventEffect self.old.controls self.old.name self.new.draft.is_changed (is_selecting
+            self.old.draft.area) self.old.field event.now)
+            (IsAfterEvent self.old.controls (is_some self.old.name) self.new.draft.is_changed
+            self.old.draft.area.document.cursor (match_count self.old.draft.area) self.old.field now
+            event.now)
+            (NamesByEvent self.old.controls.focus event.now self.old.field (names_of self.old))
+            (ShownByEvent self.old.controls.focus event.now (shown_by self.old))
+            result self.new }
     {
         match event {
             Event::Size { columns, rows } => {
@@ -90,23 +85,19 @@ impl Editor {
 
     // Takes a key, or a step of the wheel.
     fn take_input(&mut self, input: &Input) -> Result<Effect, AllocError>
-        ensures ok { OnOk result
+        ensures { IsDone self.old
             (MakesSome (IsInput self.old.controls.focus self.old self.old.draft.area input.now)
-            self.old.draft self.new.draft) }
-        ensures err { OnErr result
+            self.old.draft)
             (FailsInSome (IsInput self.old.controls.focus self.old self.old.draft.area input.now)
-            self.old.draft self.new.draft) }
-        ensures carries { IfOk result
-            (Carries (MayQuit self.old self.new.draft) self.new.draft.area self.new.line_end) }
-        ensures effect { IfOk result (IsInputEffect self.old.controls.focus self.old.controls
-            self.old.name self.new.draft.is_changed (is_selecting self.old.draft.area)
-            self.old.field input.now) }
-        ensures end { self.new.line_end ≡ self.old.line_end }
-        ensures controls { OnOk result (IsAfterInput self.old.controls.focus self.old.controls
-            (is_some self.old.name) self.new.draft.is_changed
-            self.old.draft.area.document.cursor (match_count self.old.draft.area) self.old.field
-            input.now self.new.controls) }
-        ensures kept { OnErr result (self.new.controls ≡ self.old.controls) }
+            self.old.draft)
+            (IsInputEffect self.old.controls.focus self.old.controls self.old.name
+            self.new.draft.is_changed (is_selecting self.old.draft.area) self.old.field input.now)
+            (IsAfterInput self.old.controls.focus self.old.controls (is_some self.old.name)
+            self.new.draft.is_changed self.old.draft.area.document.cursor (match_count
+            self.old.draft.area) self.old.field input.now)
+            (NamesByInput self.old.controls.focus input.now self.old.field (names_of self.old))
+            (ShownByInput self.old.controls.focus input.now (shown_by self.old))
+            result self.new }
     {
         // The question whether to overwrite goes on being asked of the same file.
         if self.message != Message::Exists {
@@ -123,15 +114,9 @@ impl Editor {
 
     // Takes a pasted text.
     fn take_paste(&mut self, text: &str) -> Result<Effect, AllocError>
-        ensures ok { OnOk result (MakesSome (IsPaste self.old.controls.focus self.old text.now)
-            self.old.draft self.new.draft) }
-        ensures err { OnErr result (FailsInSome (IsPaste self.old.controls.focus self.old text.now)
-            self.old.draft self.new.draft) }
-        ensures carries { IfOk result
-            (Carries (MayQuit self.old self.new.draft) self.new.draft.area self.new.line_end) }
-        ensures effect { IfOk result IsNothing }
-        ensures end { self.new.line_end ≡ self.old.line_end }
-        ensures controls { self.new.controls ≡ self.old.controls }
+        ensures { IsStepOf self.old
+            (IsPaste self.old.controls.focus self.old text.now)
+            IsNothing (IsKept self.old) result self.new }
     {
         match self.controls.focus {
             Focus::Text => self.paste(text),
@@ -149,6 +134,9 @@ impl Editor {
         ensures end { self.new.line_end ≡ self.old.line_end }
         ensures controls { self.new.controls
             ≡ after_help_key (help_key input.now) self.old.controls self.new.draft.is_changed }
+        ensures names { KeepsNames (names_of self.old) (names_of self.new) }
+        ensures columns { self.new.columns ≡ self.old.columns }
+        ensures rows { self.new.rows ≡ self.old.rows }
         ensures help { IsHelpAfter (help_key input.now) self.old.help self.new.help }
     {
         match help_key(input) {

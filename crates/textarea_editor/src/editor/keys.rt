@@ -1,13 +1,11 @@
 // Keys in the text, and texts that are pasted into it.
-ghost use Rattle.std.specs.Prelude.{◌≡◌, ◌-◌, IfOk, OnErr, OnOk, is_some};
+ghost use Rattle.std.specs.Prelude.{◌≡◌, ◌-◌, is_some};
 ghost use Rattle.textarea_editor.specs.Controls.{IsAfterKey, after_modal_step, after_typed, after_unbound};
-ghost use Rattle.textarea_editor.specs.Draft.{FailsIn, FailsInSome, Makes, MakesSome};
-ghost use Rattle.textarea_editor.specs.Editor.{MayQuit};
-ghost use Rattle.textarea_editor.specs.Effects.{Carries};
 ghost use Rattle.textarea_editor.specs.EventEffects.{IsKeyEffect, IsModalEffect, IsNothing, IsTypedEffect, IsUnboundEffect};
 ghost use Rattle.textarea_editor.specs.EventCalls.{IsFit, IsKeyInText, is_selecting, own_calls, paste_calls, typed_calls, unbound_calls};
 ghost use Rattle.textarea_editor.specs.Indents.{keeps_indent};
 ghost use Rattle.textarea_modal.specs.Table.{step};
+ghost use Rattle.textarea_editor.specs.StepOf.{IsKept, IsStepBy, IsStepOf};
 
 use super::{Editor, WHEEL_DOWN, WHEEL_UP};
 use crate::draft::copies;
@@ -22,19 +20,14 @@ use textarea_modal::Modal;
 impl Editor {
     // Takes a key in the text: one of the table, of the modal editor, or of the text area.
     pub(super) fn take_key(&mut self, input: &Input) -> Result<Effect, AllocError>
-        ensures ok { OnOk result (MakesSome (IsKeyInText self.old.controls self.old.draft.area
-            self.old.columns (self.old.rows - 1) input.now) self.old.draft self.new.draft) }
-        ensures err { OnErr result (FailsInSome (IsKeyInText self.old.controls self.old.draft.area
-            self.old.columns (self.old.rows - 1) input.now) self.old.draft self.new.draft) }
-        ensures carries { IfOk result
-            (Carries (MayQuit self.old self.new.draft) self.new.draft.area self.new.line_end) }
-        ensures effect { IfOk result (IsKeyEffect self.old.controls self.old.name
-            self.new.draft.is_changed (is_selecting self.old.draft.area) input.now) }
-        ensures end { self.new.line_end ≡ self.old.line_end }
-        ensures controls { OnOk result (IsAfterKey self.old.controls (is_some self.old.name)
-            self.new.draft.is_changed self.old.draft.area.document.cursor input.now
-            self.new.controls) }
-        ensures kept { OnErr result (self.new.controls ≡ self.old.controls) }
+        ensures { IsStepOf self.old
+            (IsKeyInText self.old.controls self.old.draft.area self.old.columns (self.old.rows - 1)
+            input.now)
+            (IsKeyEffect self.old.controls self.old.name self.new.draft.is_changed (is_selecting
+            self.old.draft.area) input.now)
+            (IsAfterKey self.old.controls (is_some self.old.name) self.new.draft.is_changed
+            self.old.draft.area.document.cursor input.now)
+            result self.new }
     {
         let fits = self.fits();
         match command_of(input, self.controls.modal.is_some()) {
@@ -57,20 +50,14 @@ impl Editor {
 
     // Takes a key that is none of the table. The text fits into the screen or not.
     fn take_unbound(&mut self, input: &Input, fits: bool) -> Result<Effect, AllocError>
-        ensures ok { OnOk result (Makes self.old.draft
+        ensures { IsStepBy self.old
             (unbound_calls fits self.old.controls self.old.draft.area.document
-            self.old.draft.area.drawing.viewport input.now.key input.now) self.new.draft) }
-        ensures err { OnErr result (FailsIn self.old.draft
-            (unbound_calls fits self.old.controls self.old.draft.area.document
-            self.old.draft.area.drawing.viewport input.now.key input.now) self.new.draft) }
-        ensures carries { IfOk result
-            (Carries (MayQuit self.old self.new.draft) self.new.draft.area self.new.line_end) }
-        ensures effect { IfOk result (IsUnboundEffect input.now.key self.old.controls.modal
-            self.new.draft.is_changed input.now) }
-        ensures end { self.new.line_end ≡ self.old.line_end }
-        ensures controls { OnOk result (self.new.controls ≡ after_unbound input.now.key
-            self.old.controls self.new.draft.is_changed input.now) }
-        ensures kept { OnErr result (self.new.controls ≡ self.old.controls) }
+            self.old.draft.area.drawing.viewport input.now.key input.now)
+            (IsUnboundEffect input.now.key self.old.controls.modal self.new.draft.is_changed
+            input.now)
+            (λ controls. controls ≡ after_unbound input.now.key self.old.controls
+            self.new.draft.is_changed input.now)
+            result self.new }
     {
         match input.key {
             Key::MouseScrollDown if fits => Ok(Effect::Nothing),
@@ -82,20 +69,13 @@ impl Editor {
 
     // Takes a key of the modal editor, if there is one, or of the text area.
     fn take_typed(&mut self, input: &Input) -> Result<Effect, AllocError>
-        ensures ok { OnOk result (Makes self.old.draft (typed_calls self.old.controls.modal
-            self.old.controls.keeps_indent self.old.draft.area.document
-            self.old.draft.area.drawing.viewport input.now) self.new.draft) }
-        ensures err { OnErr result (FailsIn self.old.draft (typed_calls self.old.controls.modal
-            self.old.controls.keeps_indent self.old.draft.area.document
-            self.old.draft.area.drawing.viewport input.now) self.new.draft) }
-        ensures carries { IfOk result
-            (Carries (MayQuit self.old self.new.draft) self.new.draft.area self.new.line_end) }
-        ensures effect { IfOk result (IsTypedEffect self.old.controls.modal
-            self.new.draft.is_changed input.now) }
-        ensures end { self.new.line_end ≡ self.old.line_end }
-        ensures controls { OnOk result (self.new.controls ≡ after_typed self.old.controls.modal
-            self.old.controls self.new.draft.is_changed input.now) }
-        ensures kept { OnErr result (self.new.controls ≡ self.old.controls) }
+        ensures { IsStepBy self.old
+            (typed_calls self.old.controls.modal self.old.controls.keeps_indent
+            self.old.draft.area.document self.old.draft.area.drawing.viewport input.now)
+            (IsTypedEffect self.old.controls.modal self.new.draft.is_changed input.now)
+            (λ controls. controls ≡ after_typed self.old.controls.modal self.old.controls
+            self.new.draft.is_changed input.now)
+            result self.new }
     {
         match self.controls.modal {
             Some(modal) => self.take_modal(modal, input),
@@ -105,19 +85,10 @@ impl Editor {
 
     // Takes a key of the text area. One that breaks the line keeps its indent, if that is set.
     fn take_own(&mut self, input: &Input) -> Result<Effect, AllocError>
-        ensures ok { OnOk result (Makes self.old.draft
+        ensures { IsStepBy self.old
             (own_calls (keeps_indent self.old.controls.keeps_indent input.now)
             self.old.draft.area.document self.old.draft.area.drawing.viewport input.now)
-            self.new.draft) }
-        ensures err { OnErr result (FailsIn self.old.draft
-            (own_calls (keeps_indent self.old.controls.keeps_indent input.now)
-            self.old.draft.area.document self.old.draft.area.drawing.viewport input.now)
-            self.new.draft) }
-        ensures carries { IfOk result
-            (Carries (MayQuit self.old self.new.draft) self.new.draft.area self.new.line_end) }
-        ensures effect { IfOk result IsNothing }
-        ensures end { self.new.line_end ≡ self.old.line_end }
-        ensures controls { self.new.controls ≡ self.old.controls }
+            IsNothing (IsKept self.old) result self.new }
     {
         if keeps_indent(self.controls.keeps_indent, input) {
             self.draft.break_line()?;
@@ -129,18 +100,12 @@ impl Editor {
 
     // Takes a key of the modal editor. What it copies is given to the program.
     fn take_modal(&mut self, modal: Modal, input: &Input) -> Result<Effect, AllocError>
-        ensures ok { OnOk result
-            (Makes self.old.draft (step modal input.now).calls self.new.draft) }
-        ensures err { OnErr result
-            (FailsIn self.old.draft (step modal input.now).calls self.new.draft) }
-        ensures carries { IfOk result
-            (Carries (MayQuit self.old self.new.draft) self.new.draft.area self.new.line_end) }
-        ensures effect { IfOk result
-            (IsModalEffect (step modal input.now).quits self.new.draft.is_changed) }
-        ensures end { self.new.line_end ≡ self.old.line_end }
-        ensures controls { OnOk result (self.new.controls ≡ after_modal_step self.old.controls
-            self.new.draft.is_changed (step modal input.now)) }
-        ensures kept { OnErr result (self.new.controls ≡ self.old.controls) }
+        ensures { IsStepBy self.old
+            (step modal input.now).calls
+            (IsModalEffect (step modal input.now).quits self.new.draft.is_changed)
+            (λ controls. controls ≡ after_modal_step self.old.controls self.new.draft.is_changed
+            (step modal input.now))
+            result self.new }
     {
         let mut modal = modal;
         let reaction = modal.reaction(input);
@@ -157,13 +122,9 @@ impl Editor {
 
     // Inserts a pasted text as one edit.
     pub(super) fn paste(&mut self, text: &str) -> Result<Effect, AllocError>
-        ensures ok { OnOk result (Makes self.old.draft (paste_calls text.now) self.new.draft) }
-        ensures err { OnErr result (FailsIn self.old.draft (paste_calls text.now) self.new.draft) }
-        ensures carries { IfOk result
-            (Carries (MayQuit self.old self.new.draft) self.new.draft.area self.new.line_end) }
-        ensures effect { IfOk result IsNothing }
-        ensures end { self.new.line_end ≡ self.old.line_end }
-        ensures controls { self.new.controls ≡ self.old.controls }
+        ensures { IsStepBy self.old
+            (paste_calls text.now)
+            IsNothing (IsKept self.old) result self.new }
     {
         self.make(&[Call::InsertPasted(text)])
     }

@@ -1,9 +1,9 @@
 // The text areas of an editor.
 ghost use Rattle.std.specs.Prelude.{◌≡◌, IfOk, OnOk, string_bytes};
-ghost use Rattle.textarea_editor.specs.Draft.{IsSaved};
+ghost use Rattle.textarea_editor.specs.Draft.{HasCopy, IsSaved};
 ghost use Rattle.textarea_editor.specs.Effects.{IsWritten};
 ghost use Rattle.textarea_editor.specs.EventCalls.{wrap_mode};
-ghost use Rattle.textarea_editor.specs.SetUp.{IsNew, IsOpened, IsShown, by_clusters, new_prompt, opened, set_up, with_hidden_cursor};
+ghost use Rattle.textarea_editor.specs.SetUp.{IsNew, IsOpened, IsShown, IsViewed, by_clusters, new_prompt, opened, set_up, with_hidden_cursor};
 ghost use Rattle.textarea_text.specs.Text.{text_of};
 ghost use Rattle.tui_textarea.specs.LayoutCalls.{with_wrap_mode};
 
@@ -79,6 +79,27 @@ pub fn file_draft(alloc: Global, text: String, wraps: bool) -> Result<(Draft, Li
         closes_last: false,
     };
     Ok((opened(alloc, lines, wraps)?, ends))
+}
+
+/// Returns the draft of a text that is shown, and how its lines end.
+pub fn viewed_draft(
+    alloc: Global,
+    text: String,
+    wraps: bool,
+) -> Result<(Draft, LineEnds), AllocError>
+    ensures written { IfOk result (λ made. IsWritten made.0.area made.1 (string_bytes text)) }
+    ensures viewed { IfOk result (λ made. IsViewed made.0.area wraps) }
+    ensures saved { IfOk result (λ made. IsSaved made.0) }
+    ensures copy { IfOk result (λ made. HasCopy made.0) }
+{
+    let (mut draft, ends) = file_draft(alloc, text, wraps)?;
+    match draft.set_read_only() {
+        Ok(()) => Ok((draft, ends)),
+        Err(error) => {
+            drop(draft);
+            Err(error)
+        }
+    }
 }
 
 /// Puts a draft in place of another.

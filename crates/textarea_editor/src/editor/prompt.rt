@@ -1,13 +1,14 @@
 // The prompt: a text area of one line in the status row.
-ghost use Rattle.std.specs.Prelude.{◌≡◌, IfOk, OnErr, OnOk};
+ghost use Rattle.std.specs.Prelude.{◌≡◌, false, OnErr, OnOk};
 ghost use Rattle.textarea_editor.specs.Controls.{IsAfterPromptKey, IsNameTaken, IsTaken, prompt_opened, with_focus};
-ghost use Rattle.textarea_editor.specs.Draft.{FailsIn, FailsInSome, Makes, MakesSome};
-ghost use Rattle.textarea_editor.specs.Editor.{MayQuit};
-ghost use Rattle.textarea_editor.specs.Effects.{Carries};
 ghost use Rattle.textarea_editor.specs.EventEffects.{IsNameEffect, IsNothing, IsPromptEffect, IsTakenEffect};
 ghost use Rattle.textarea_editor.specs.EventCalls.{IsKeyInPrompt, IsLineAsked, IsLookingFor, IsPasteInPrompt, IsPromptChanged, IsPromptInput, IsPromptTaken, IsSought, row_calls};
+ghost use Rattle.textarea_editor.specs.Names.{KeepsNames, NamesByKey, NamesTaken, TakesName, names_of};
 ghost use Rattle.textarea_editor.specs.PromptKeys.{prompt_key};
 ghost use Rattle.textarea_editor.specs.PromptText.{filled, name_filled, text_recalled};
+ghost use Rattle.textarea_editor.specs.SearchMessages.{IsLookTold, IsSearchTold, has_match, search_message};
+ghost use Rattle.textarea_editor.specs.Sizes.{KeepsShown, shown_by};
+ghost use Rattle.textarea_editor.specs.StepOf.{IsKept, IsNamingStepBeside, IsNamingStepOf, IsStepBy, IsStepOf};
 ghost use Rattle.textarea_editor.specs.declared.focus.Focus.TheVariants as focus;
 ghost use Rattle.tui_textarea.specs.Search.{match_count};
 
@@ -34,6 +35,8 @@ impl Editor {
         ensures controls { OnOk result (self.new.controls ≡ prompt_opened self.old.controls
             self.old.draft.area.document.cursor asked) }
         ensures kept { OnErr result (self.new.controls ≡ self.old.controls) }
+        ensures names { KeepsNames (names_of self.old) (names_of self.new) }
+        ensures shown { KeepsShown (shown_by self.old) (shown_by self.new) }
     {
         self.fill_prompt(asked)?;
         self.controls.origin = self.draft.area().cursor();
@@ -50,6 +53,8 @@ impl Editor {
         ensures message { self.new.message ≡ self.old.message }
         ensures end { self.new.line_end ≡ self.old.line_end }
         ensures controls { self.new.controls ≡ self.old.controls }
+        ensures names { KeepsNames (names_of self.old) (names_of self.new) }
+        ensures shown { KeepsShown (shown_by self.old) (shown_by self.new) }
     {
         match asked {
             Asked::Name => fill(&mut self.field, &self.name),
@@ -68,19 +73,15 @@ impl Editor {
         asked: Asked,
         input: &Input,
     ) -> Result<Effect, AllocError>
-        ensures ok { OnOk result (MakesSome (IsKeyInPrompt (prompt_key asked input.now) asked
-            self.old.controls self.old.field input.now) self.old.draft self.new.draft) }
-        ensures err { OnErr result (FailsInSome (IsKeyInPrompt (prompt_key asked input.now) asked
-            self.old.controls self.old.field input.now) self.old.draft self.new.draft) }
-        ensures carries { IfOk result
-            (Carries (MayQuit self.old self.new.draft) self.new.draft.area self.new.line_end) }
-        ensures effect { IfOk result (IsPromptEffect (prompt_key asked input.now) asked
-            self.new.draft.is_changed self.old.field) }
-        ensures end { self.new.line_end ≡ self.old.line_end }
-        ensures controls { OnOk result (IsAfterPromptKey (prompt_key asked input.now) asked
-            self.old.controls self.new.draft.is_changed (match_count self.old.draft.area)
-            self.old.field self.new.controls) }
-        ensures kept { OnErr result (self.new.controls ≡ self.old.controls) }
+        ensures { IsNamingStepOf self.old
+            (IsKeyInPrompt (prompt_key asked input.now) asked self.old.controls self.old.field
+            input.now)
+            (IsPromptEffect (prompt_key asked input.now) asked self.new.draft.is_changed
+            self.old.field)
+            (IsAfterPromptKey (prompt_key asked input.now) asked self.old.controls
+            self.new.draft.is_changed (match_count self.old.draft.area) self.old.field)
+            (NamesByKey (prompt_key asked input.now) asked self.old.field (names_of self.old))
+            result self.new }
     {
         match prompt_key(asked, input) {
             PromptKey::Leave => {
@@ -98,17 +99,9 @@ impl Editor {
 
     // Passes an input to the prompt's text area.
     fn edit_prompt(&mut self, asked: Asked, input: &Input) -> Result<Effect, AllocError>
-        ensures ok { OnOk result
-            (MakesSome (IsPromptInput asked self.old.controls self.old.field input.now)
-            self.old.draft self.new.draft) }
-        ensures err { OnErr result
-            (FailsInSome (IsPromptInput asked self.old.controls self.old.field input.now)
-            self.old.draft self.new.draft) }
-        ensures carries { IfOk result
-            (Carries (MayQuit self.old self.new.draft) self.new.draft.area self.new.line_end) }
-        ensures effect { IfOk result IsNothing }
-        ensures end { self.new.line_end ≡ self.old.line_end }
-        ensures controls { self.new.controls ≡ self.old.controls }
+        ensures { IsStepOf self.old
+            (IsPromptInput asked self.old.controls self.old.field input.now)
+            IsNothing (IsKept self.old) result self.new }
     {
         let is_edited = self.field.input(copied(input))?;
         if is_edited {
@@ -120,17 +113,9 @@ impl Editor {
 
     // Pastes the first line of a text into the prompt.
     pub(super) fn paste_in_prompt(&mut self, asked: Asked, text: &str) -> Result<Effect, AllocError>
-        ensures ok { OnOk result
-            (MakesSome (IsPasteInPrompt asked self.old.controls self.old.field text.now)
-            self.old.draft self.new.draft) }
-        ensures err { OnErr result
-            (FailsInSome (IsPasteInPrompt asked self.old.controls self.old.field text.now)
-            self.old.draft self.new.draft) }
-        ensures carries { IfOk result
-            (Carries (MayQuit self.old self.new.draft) self.new.draft.area self.new.line_end) }
-        ensures effect { IfOk result IsNothing }
-        ensures end { self.new.line_end ≡ self.old.line_end }
-        ensures controls { self.new.controls ≡ self.old.controls }
+        ensures { IsStepOf self.old
+            (IsPasteInPrompt asked self.old.controls self.old.field text.now)
+            IsNothing (IsKept self.old) result self.new }
     {
         let line = first_line(self.allocator(), text)?;
         let is_edited = self.field.insert_str(line.as_str())?;
@@ -143,16 +128,9 @@ impl Editor {
 
     // Looks for the prompt's text, if it is one to find.
     fn look(&mut self, asked: Asked) -> Result<Effect, AllocError>
-        ensures ok { OnOk result (MakesSome (IsPromptChanged asked self.old.controls self.old.field)
-            self.old.draft self.new.draft) }
-        ensures err { OnErr result
-            (FailsInSome (IsPromptChanged asked self.old.controls self.old.field)
-            self.old.draft self.new.draft) }
-        ensures carries { IfOk result
-            (Carries (MayQuit self.old self.new.draft) self.new.draft.area self.new.line_end) }
-        ensures effect { IfOk result IsNothing }
-        ensures end { self.new.line_end ≡ self.old.line_end }
-        ensures controls { self.new.controls ≡ self.old.controls }
+        ensures { IsStepOf self.old
+            (IsPromptChanged asked self.old.controls self.old.field)
+            IsNothing (IsKept self.old) result self.new }
     {
         match asked {
             Asked::Text | Asked::Replaced => self.look_for(self.controls.search),
@@ -162,19 +140,11 @@ impl Editor {
 
     // Changes how the prompt's text is found, and looks for it.
     fn look_with(&mut self, options: SearchOptions) -> Result<Effect, AllocError>
-        ensures ok { OnOk result
-            (MakesSome (IsLookingFor options self.old.controls.origin self.old.field)
-            self.old.draft self.new.draft) }
-        ensures err { OnErr result
-            (FailsInSome (IsLookingFor options self.old.controls.origin self.old.field)
-            self.old.draft self.new.draft) }
-        ensures carries { IfOk result
-            (Carries (MayQuit self.old self.new.draft) self.new.draft.area self.new.line_end) }
-        ensures effect { IfOk result IsNothing }
-        ensures end { self.new.line_end ≡ self.old.line_end }
-        ensures controls { OnOk result
-            (self.new.controls ≡ record self.old.controls { search = options }) }
-        ensures kept { OnErr result (self.new.controls ≡ self.old.controls) }
+        ensures { IsStepOf self.old
+            (IsLookingFor options self.old.controls.origin self.old.field)
+            IsNothing
+            (λ controls. controls ≡ record self.old.controls { search = options })
+            result self.new }
     {
         let effect = self.look_for(options)?;
         self.controls.search = options;
@@ -184,76 +154,49 @@ impl Editor {
     // Lights the matches of the prompt's text, and moves to the first one from where the prompt was
     // opened.
     pub(super) fn look_for(&mut self, options: SearchOptions) -> Result<Effect, AllocError>
-        ensures ok { OnOk result
-            (MakesSome (IsLookingFor options self.old.controls.origin self.old.field)
-            self.old.draft self.new.draft) }
-        ensures err { OnErr result
-            (FailsInSome (IsLookingFor options self.old.controls.origin self.old.field)
-            self.old.draft self.new.draft) }
-        ensures carries { IfOk result
-            (Carries (MayQuit self.old self.new.draft) self.new.draft.area self.new.line_end) }
-        ensures effect { IfOk result IsNothing }
-        ensures end { self.new.line_end ≡ self.old.line_end }
-        ensures controls { self.new.controls ≡ self.old.controls }
+        ensures step { IsStepOf self.old
+            (IsLookingFor options self.old.controls.origin self.old.field)
+            IsNothing (IsKept self.old) result self.new }
+        ensures message { OnOk result (IsLookTold options self.old.controls.origin
+            self.old.field self.new.draft.area self.old.message self.new.message) }
     {
         let text = self.field.lines()[0].as_str();
-        let found = self.draft.look_for(self.controls.origin, options, text)?;
-        let is_found = found || text.is_empty();
-        self.show_search(options, is_found);
+        let origin = self.controls.origin;
+        let is_found = self.draft.look_for(origin, options, text)?;
+        if !self.field.is_empty() {
+            self.show_match(true, true, origin, is_found);
+        }
+        self.show_broken(options);
         Ok(Effect::Nothing)
     }
 
     // Lights the matches of the prompt's text, and moves to the next or the previous one.
     fn seek(&mut self, is_forward: bool) -> Result<Effect, AllocError>
-        ensures ok { OnOk result
-            (MakesSome (IsSought is_forward self.old.controls.search self.old.field)
-            self.old.draft self.new.draft) }
-        ensures err { OnErr result
-            (FailsInSome (IsSought is_forward self.old.controls.search self.old.field)
-            self.old.draft self.new.draft) }
-        ensures carries { IfOk result
-            (Carries (MayQuit self.old self.new.draft) self.new.draft.area self.new.line_end) }
-        ensures effect { IfOk result IsNothing }
-        ensures end { self.new.line_end ≡ self.old.line_end }
-        ensures controls { self.new.controls ≡ self.old.controls }
+        ensures step { IsStepOf self.old
+            (IsSought is_forward self.old.controls.search self.old.field)
+            IsNothing (IsKept self.old) result self.new }
+        ensures message { OnOk result (IsSearchTold self.old.controls.search
+            (search_message is_forward false self.old.draft.area.document.cursor
+            self.new.draft.area.document.cursor (has_match self.new.draft.area)
+            self.old.message) self.new.message) }
     {
         let text = self.field.lines()[0].as_str();
         let options = self.controls.search;
-        let found = self.draft.seek(is_forward, options, text)?;
-        self.show_search(options, found);
+        let from = self.draft.area().cursor();
+        let is_found = self.draft.seek(is_forward, options, text)?;
+        self.show_match(is_forward, false, from, is_found);
+        self.show_broken(options);
         Ok(Effect::Nothing)
-    }
-
-    // Shows a message if the prompt's text is a broken pattern, or was not found.
-    fn show_search(&mut self, options: SearchOptions, is_found: bool)
-        ensures draft { self.new.draft ≡ self.old.draft }
-        ensures end { self.new.line_end ≡ self.old.line_end }
-        ensures controls { self.new.controls ≡ self.old.controls }
-    {
-        let text = self.field.lines()[0].as_str();
-        if options.is_pattern && !self.draft.has_pattern(options, text) {
-            self.message = Message::BrokenPattern;
-        } else if !is_found {
-            self.message = Message::NoMatch;
-        }
     }
 
     // Takes the prompt's text.
     fn accept(&mut self, asked: Asked) -> Result<Effect, AllocError>
-        ensures ok { OnOk result
-            (MakesSome (IsPromptTaken asked self.old.controls self.old.field) self.old.draft
-            self.new.draft) }
-        ensures err { OnErr result
-            (FailsInSome (IsPromptTaken asked self.old.controls self.old.field) self.old.draft
-            self.new.draft) }
-        ensures carries { IfOk result
-            (Carries (MayQuit self.old self.new.draft) self.new.draft.area self.new.line_end) }
-        ensures effect { IfOk result (IsTakenEffect asked self.old.field) }
-        ensures end { self.new.line_end ≡ self.old.line_end }
-        ensures controls { OnOk result
-            (IsTaken asked self.old.controls (match_count self.old.draft.area) self.old.field
-            self.new.controls) }
-        ensures kept { OnErr result (self.new.controls ≡ self.old.controls) }
+        ensures { IsNamingStepOf self.old
+            (IsPromptTaken asked self.old.controls self.old.field)
+            (IsTakenEffect asked self.old.field)
+            (IsTaken asked self.old.controls (match_count self.old.draft.area) self.old.field)
+            (NamesTaken asked self.old.field (names_of self.old))
+            result self.new }
     {
         match asked {
             // Enter moves on in a search, so its text is never taken.
@@ -267,17 +210,11 @@ impl Editor {
 
     // Moves to the line of the number in the prompt, counted from 1.
     fn go_to_line(&mut self) -> Result<Effect, AllocError>
-        ensures ok { OnOk result
-            (MakesSome (IsLineAsked self.old.field) self.old.draft self.new.draft) }
-        ensures err { OnErr result
-            (FailsInSome (IsLineAsked self.old.field) self.old.draft self.new.draft) }
-        ensures carries { IfOk result
-            (Carries (MayQuit self.old self.new.draft) self.new.draft.area self.new.line_end) }
-        ensures effect { IfOk result IsNothing }
-        ensures end { self.new.line_end ≡ self.old.line_end }
-        ensures controls { OnOk result
-            (self.new.controls ≡ with_focus self.old.controls focus.Text) }
-        ensures kept { OnErr result (self.new.controls ≡ self.old.controls) }
+        ensures { IsStepOf self.old
+            (IsLineAsked self.old.field)
+            IsNothing
+            (λ controls. controls ≡ with_focus self.old.controls focus.Text)
+            result self.new }
     {
         match row_of_line(line_number(self.field.lines()[0].as_str())) {
             Some(row) => self.go_to_row(row),
@@ -291,15 +228,11 @@ impl Editor {
 
     // Drops the selection, and moves to the start of a line.
     fn go_to_row(&mut self, row: usize) -> Result<Effect, AllocError>
-        ensures ok { OnOk result (Makes self.old.draft (row_calls (Some row)) self.new.draft) }
-        ensures err { OnErr result (FailsIn self.old.draft (row_calls (Some row)) self.new.draft) }
-        ensures carries { IfOk result
-            (Carries (MayQuit self.old self.new.draft) self.new.draft.area self.new.line_end) }
-        ensures effect { IfOk result IsNothing }
-        ensures end { self.new.line_end ≡ self.old.line_end }
-        ensures controls { OnOk result
-            (self.new.controls ≡ with_focus self.old.controls focus.Text) }
-        ensures kept { OnErr result (self.new.controls ≡ self.old.controls) }
+        ensures { IsStepBy self.old
+            (row_calls (Some row))
+            IsNothing
+            (λ controls. controls ≡ with_focus self.old.controls focus.Text)
+            result self.new }
     {
         self.draft.go_to(row)?;
         self.controls.focus = Focus::Text;
@@ -308,22 +241,21 @@ impl Editor {
 
     // Takes the prompt's text as the file's name, and saves the file.
     fn take_name(&mut self) -> Result<Effect, AllocError>
-        ensures draft { self.new.draft ≡ self.old.draft }
-        ensures carries { IfOk result
-            (Carries (MayQuit self.old self.new.draft) self.new.draft.area self.new.line_end) }
-        ensures effect { IfOk result (IsNameEffect self.old.field) }
-        ensures end { self.new.line_end ≡ self.old.line_end }
-        ensures controls { OnOk result
-            (IsNameTaken self.old.controls self.old.field self.new.controls) }
-        ensures kept { OnErr result (self.new.controls ≡ self.old.controls) }
+        ensures { IsNamingStepBeside self.old
+            (IsNameEffect self.old.field)
+            (IsNameTaken self.old.controls self.old.field)
+            (TakesName self.old.field (names_of self.old))
+            result self.new }
     {
         if self.field.is_empty() {
             self.leave_prompt(Asked::Name);
             return Ok(Effect::Nothing);
         }
         let name = self.field.lines()[0].clone()?;
+        let saving = self.saving(name.as_str(), false)?;
         self.rename(name);
-        self.save(false)
+        self.controls.focus = Focus::Text;
+        Ok(Effect::Save(saving))
     }
 }
 

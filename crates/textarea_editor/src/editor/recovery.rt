@@ -3,7 +3,7 @@ ghost use Rattle.std.specs.Prelude.{◌≡◌, ◌↔◌, ◌≤◌, ◌^◌, fa
 ghost use Rattle.textarea_editor.specs.ControlCharacters.{IsCountShown};
 ghost use Rattle.textarea_editor.specs.Controls.{with_focus};
 ghost use Rattle.textarea_editor.specs.Draft.{IsUnsaved};
-ghost use Rattle.textarea_editor.specs.Editor.{controls_of, draft_of, end_of, message_of, numbers_of, wraps_of};
+ghost use Rattle.textarea_editor.specs.Editor.{KeepsRest, controls_of, draft_of, end_of, file_name_of, message_of, with_controls, with_message, wraps_of};
 ghost use Rattle.textarea_editor.specs.Effects.{IsWritten};
 ghost use Rattle.textarea_editor.specs.JournalQuestions.{journal_question};
 ghost use Rattle.textarea_editor.specs.SetUp.{IsOpened};
@@ -20,11 +20,8 @@ impl Editor {
     /// [`Effect::Recover`](crate::Effect::Recover) or
     /// [`Effect::Discard`](crate::Effect::Discard), or nothing for a journal that stays.
     pub fn ask_about_journal(&mut self, is_of_file: bool)
-        ensures draft { draft_of self.new ≡ draft_of self.old }
-        ensures end { end_of self.new ≡ end_of self.old }
-        ensures controls { controls_of self.new
-            ≡ with_focus (controls_of self.old) (Focus.Question (journal_question is_of_file)) }
-        ensures message { message_of self.new ≡ message_of self.old }
+        ensures { self.new ≡ with_controls self.old
+            (with_focus (controls_of self.old) (Focus.Question (journal_question is_of_file))) }
     {
         self.controls.focus = Focus::Question(journal_question(is_of_file));
     }
@@ -39,10 +36,13 @@ impl Editor {
         ensures opened { OnOk result (IsOpened (draft_of self.new).area (wraps_of self.new)) }
         ensures wraps { OnOk result
             (IsTrue (wraps_of self.new) ↔ (length (string_bytes text) ≤ 2 ^ 20)) }
-        ensures unnumbered { OnOk result (numbers_of self.new ≡ false) }
+        ensures controls { OnOk result (controls_of self.new
+            ≡ record (controls_of self.old) { wraps = wraps_of self.new; numbers = false }) }
         ensures unsaved { OnOk result (IsUnsaved (draft_of self.new)) }
         ensures counted { OnOk result
             (IsCountShown (draft_of self.new).area Message.Nothing (message_of self.new)) }
+        ensures name { OnOk result (file_name_of self.new ≡ file_name_of self.old) }
+        ensures rest { OnOk result (KeepsRest self.old self.new) }
         ensures err { OnErr result (self.new ≡ self.old) }
     {
         self.take_text(text)?;
@@ -52,11 +52,8 @@ impl Editor {
 
     /// Shows a message until the next key, unless another one is shown. Returns whether it is shown.
     pub fn add_message(&mut self, message: Message) -> bool
-        ensures draft { draft_of self.new ≡ draft_of self.old }
-        ensures end { end_of self.new ≡ end_of self.old }
-        ensures controls { controls_of self.new ≡ controls_of self.old }
         ensures free { IsTrue result ↔ (message_of self.old ≡ Message.Nothing) }
-        ensures shown { result ≡ true → message_of self.new ≡ message }
+        ensures shown { result ≡ true → self.new ≡ with_message self.old message }
         ensures other { result ≡ false → self.new ≡ self.old }
     {
         if self.message != Message::Nothing {

@@ -1,14 +1,15 @@
 // Replacing of the matches of a text, with a question at each.
-ghost use Rattle.std.specs.Prelude.{◌≡◌, ◌∷◌, [], IfOk, OnErr, OnOk};
+ghost use Rattle.std.specs.Prelude.{◌≡◌, ◌∷◌, [], OnOk};
 ghost use Rattle.textarea_calls.specs.declared.call.Call.TheVariants as call;
 ghost use Rattle.textarea_editor.specs.Controls.{after_replace_key, past_match, replace_asked, replace_focus, with_focus};
-ghost use Rattle.textarea_editor.specs.Draft.{FailsIn, FailsInSome, Makes, MakesSome};
-ghost use Rattle.textarea_editor.specs.Editor.{MayQuit};
-ghost use Rattle.textarea_editor.specs.Effects.{Carries, optional_bytes};
+ghost use Rattle.textarea_editor.specs.Effects.{optional_bytes};
 ghost use Rattle.textarea_editor.specs.EventEffects.{IsNothing, replace_effect};
 ghost use Rattle.textarea_editor.specs.EventCalls.{IsLookingFor, IsReplacingText, replace_calls, skip_calls};
+ghost use Rattle.textarea_editor.specs.Names.{KeepsNames, names_of};
 ghost use Rattle.textarea_editor.specs.Patterns.{borrowed};
 ghost use Rattle.textarea_editor.specs.ReplaceKeys.{replace_key};
+ghost use Rattle.textarea_editor.specs.Sizes.{KeepsShown, shown_by};
+ghost use Rattle.textarea_editor.specs.StepOf.{IsStepBeside, IsStepBy, IsStepOf};
 ghost use Rattle.textarea_editor.specs.declared.focus.Asked.TheVariants as asks;
 ghost use Rattle.textarea_editor.specs.declared.focus.Focus.TheVariants as focus;
 ghost use Rattle.tui_textarea.specs.Search.{match_count};
@@ -25,17 +26,11 @@ use textarea_data::input::Input;
 impl Editor {
     // Looks for the prompt's text, and asks what replaces it.
     pub(super) fn ask_replacement(&mut self) -> Result<Effect, AllocError>
-        ensures ok { OnOk result (MakesSome (IsLookingFor self.old.controls.search
-            self.old.controls.origin self.old.field) self.old.draft self.new.draft) }
-        ensures err { OnErr result (FailsInSome (IsLookingFor self.old.controls.search
-            self.old.controls.origin self.old.field) self.old.draft self.new.draft) }
-        ensures carries { IfOk result
-            (Carries (MayQuit self.old self.new.draft) self.new.draft.area self.new.line_end) }
-        ensures effect { IfOk result IsNothing }
-        ensures end { self.new.line_end ≡ self.old.line_end }
-        ensures controls { OnOk result (self.new.controls
-            ≡ with_focus self.old.controls (focus.Prompt asks.Replacement)) }
-        ensures kept { OnErr result (self.new.controls ≡ self.old.controls) }
+        ensures { IsStepOf self.old
+            (IsLookingFor self.old.controls.search self.old.controls.origin self.old.field)
+            IsNothing
+            (λ controls. controls ≡ with_focus self.old.controls (focus.Prompt asks.Replacement))
+            result self.new }
     {
         self.look_for(self.controls.search)?;
         self.keep_searched();
@@ -46,15 +41,11 @@ impl Editor {
 
     // Takes the prompt's text as the one that replaces matches, and asks about the first of them.
     pub(super) fn take_replacement(&mut self) -> Result<Effect, AllocError>
-        ensures draft { self.new.draft ≡ self.old.draft }
-        ensures carries { IfOk result
-            (Carries (MayQuit self.old self.new.draft) self.new.draft.area self.new.line_end) }
-        ensures effect { IfOk result IsNothing }
-        ensures end { self.new.line_end ≡ self.old.line_end }
-        ensures controls { OnOk result (self.new.controls
-            ≡ replace_asked self.old.controls (match_count self.old.draft.area)) }
+        ensures step { IsStepBeside self.old IsNothing
+            (λ controls. controls ≡ replace_asked self.old.controls (match_count
+            self.old.draft.area))
+            result self.new }
         ensures replacement { OnOk result (IsReplacingText self.old.field self.new.replacement) }
-        ensures kept { OnErr result (self.new.controls ≡ self.old.controls) }
     {
         let count = self.draft.area().match_count()?;
         self.keep_replacement()?;
@@ -71,6 +62,8 @@ impl Editor {
         ensures end { self.new.line_end ≡ self.old.line_end }
         ensures controls { self.new.controls ≡ self.old.controls }
         ensures replacement { OnOk result (IsReplacingText self.old.field self.new.replacement) }
+        ensures names { KeepsNames (names_of self.old) (names_of self.new) }
+        ensures shown { KeepsShown (shown_by self.old) (shown_by self.new) }
     {
         let text = self.field.lines()[0].clone()?;
         self.replacement = Some(text);
@@ -80,18 +73,13 @@ impl Editor {
     // Takes a reply to whether to replace the match at the cursor. Another key than those that are
     // offered leaves the question open.
     pub(super) fn take_replace_key(&mut self, input: &Input) -> Result<Effect, AllocError>
-        ensures ok { OnOk result (Makes self.old.draft (replace_calls (replace_key input.now)
-            self.old.controls.matches (optional_bytes self.old.replacement)) self.new.draft) }
-        ensures err { OnErr result (FailsIn self.old.draft (replace_calls (replace_key input.now)
-            self.old.controls.matches (optional_bytes self.old.replacement)) self.new.draft) }
-        ensures carries { IfOk result
-            (Carries (MayQuit self.old self.new.draft) self.new.draft.area self.new.line_end) }
-        ensures effect { IfOk result (λ effect.
-            effect ≡ replace_effect (replace_key input.now) self.new.draft.is_changed) }
-        ensures end { self.new.line_end ≡ self.old.line_end }
-        ensures controls { OnOk result (self.new.controls ≡ after_replace_key
-            (replace_key input.now) self.old.controls self.new.draft.is_changed) }
-        ensures kept { OnErr result (self.new.controls ≡ self.old.controls) }
+        ensures { IsStepBy self.old
+            (replace_calls (replace_key input.now) self.old.controls.matches (optional_bytes
+            self.old.replacement))
+            (λ effect. effect ≡ replace_effect (replace_key input.now) self.new.draft.is_changed)
+            (λ controls. controls ≡ after_replace_key (replace_key input.now) self.old.controls
+            self.new.draft.is_changed)
+            result self.new }
     {
         match replace_key(input) {
             ReplaceKey::Yes => self.replace_match(),
@@ -108,18 +96,11 @@ impl Editor {
 
     // Replaces the match at the cursor, and goes on to the next one.
     fn replace_match(&mut self) -> Result<Effect, AllocError>
-        ensures ok { OnOk result (Makes self.old.draft
+        ensures { IsStepBy self.old
             (call.ReplaceMatch (borrowed (optional_bytes self.old.replacement)) ∷ [])
-            self.new.draft) }
-        ensures err { OnErr result (FailsIn self.old.draft
-            (call.ReplaceMatch (borrowed (optional_bytes self.old.replacement)) ∷ [])
-            self.new.draft) }
-        ensures carries { IfOk result
-            (Carries (MayQuit self.old self.new.draft) self.new.draft.area self.new.line_end) }
-        ensures effect { IfOk result IsNothing }
-        ensures end { self.new.line_end ≡ self.old.line_end }
-        ensures controls { OnOk result (self.new.controls ≡ past_match self.old.controls) }
-        ensures kept { OnErr result (self.new.controls ≡ self.old.controls) }
+            IsNothing
+            (λ controls. controls ≡ past_match self.old.controls)
+            result self.new }
     {
         let text = text_or_empty(&self.replacement);
         let is_replaced = self.draft.make(&[Call::ReplaceMatch(text)])?;
@@ -130,16 +111,11 @@ impl Editor {
 
     // Leaves the match at the cursor, and goes on to the next one.
     fn skip_match(&mut self) -> Result<Effect, AllocError>
-        ensures ok { OnOk result
-            (Makes self.old.draft (skip_calls self.old.controls.matches) self.new.draft) }
-        ensures err { OnErr result
-            (FailsIn self.old.draft (skip_calls self.old.controls.matches) self.new.draft) }
-        ensures carries { IfOk result
-            (Carries (MayQuit self.old self.new.draft) self.new.draft.area self.new.line_end) }
-        ensures effect { IfOk result IsNothing }
-        ensures end { self.new.line_end ≡ self.old.line_end }
-        ensures controls { OnOk result (self.new.controls ≡ past_match self.old.controls) }
-        ensures kept { OnErr result (self.new.controls ≡ self.old.controls) }
+        ensures { IsStepBy self.old
+            (skip_calls self.old.controls.matches)
+            IsNothing
+            (λ controls. controls ≡ past_match self.old.controls)
+            result self.new }
     {
         if self.controls.matches < 2 {
             self.end_replacing(self.replaced);
@@ -152,25 +128,25 @@ impl Editor {
 
     // Replaces all matches of the text as one edit.
     fn replace_all(&mut self) -> Result<Effect, AllocError>
-        ensures ok { OnOk result (Makes self.old.draft
+        ensures { IsStepBy self.old
             (call.ReplaceAll (borrowed (optional_bytes self.old.replacement)) ∷ [])
-            self.new.draft) }
-        ensures err { OnErr result (FailsIn self.old.draft
-            (call.ReplaceAll (borrowed (optional_bytes self.old.replacement)) ∷ [])
-            self.new.draft) }
-        ensures carries { IfOk result
-            (Carries (MayQuit self.old self.new.draft) self.new.draft.area self.new.line_end) }
-        ensures effect { IfOk result IsNothing }
-        ensures end { self.new.line_end ≡ self.old.line_end }
-        ensures controls { OnOk result
-            (self.new.controls ≡ with_focus self.old.controls focus.Text) }
-        ensures kept { OnErr result (self.new.controls ≡ self.old.controls) }
+            IsNothing
+            (λ controls. controls ≡ with_focus self.old.controls focus.Text)
+            result self.new }
     {
-        let count = self.draft.area().match_count()?;
+        let count = self.replaceable()?;
         let text = text_or_empty(&self.replacement);
         self.draft.make(&[Call::ReplaceAll(text)])?;
         self.end_replacing(self.replaced.saturating_add(count));
         Ok(Effect::Nothing)
+    }
+
+    // The number of matches that are replaced if all are: none in a text that is read-only.
+    fn replaceable(&self) -> Result<usize, AllocError> {
+        if self.draft.area().read_only() {
+            return Ok(0);
+        }
+        self.draft.area().match_count()
     }
 
     // Goes on to the question of the next match, or back to the text after the last one.
@@ -178,6 +154,8 @@ impl Editor {
         ensures draft { self.new.draft ≡ self.old.draft }
         ensures end { self.new.line_end ≡ self.old.line_end }
         ensures controls { self.new.controls ≡ past_match self.old.controls }
+        ensures names { KeepsNames (names_of self.old) (names_of self.new) }
+        ensures shown { KeepsShown (shown_by self.old) (shown_by self.new) }
     {
         if self.controls.matches < 2 {
             self.end_replacing(self.replaced);
@@ -192,6 +170,8 @@ impl Editor {
         ensures end { self.new.line_end ≡ self.old.line_end }
         ensures controls { self.new.controls ≡ with_focus self.old.controls focus.Text }
         ensures message { self.new.message ≡ Message.Replaced count }
+        ensures names { KeepsNames (names_of self.old) (names_of self.new) }
+        ensures shown { KeepsShown (shown_by self.old) (shown_by self.new) }
     {
         self.controls.focus = Focus::Text;
         self.message = Message::Replaced(count);
@@ -227,7 +207,7 @@ fn one_more(count: usize, is_counted: bool) -> usize {
 }
 
 // The text, empty if there is none.
-fn text_or_empty(text: &Option<String>) -> &str
+pub(super) fn text_or_empty(text: &Option<String>) -> &str
     ensures { result.now ≡ optional_bytes text.now }
 {
     match text {

@@ -1,55 +1,60 @@
 // Saving the text, and ending the program.
-ghost use Rattle.std.specs.Prelude.{◌≡◌, false, true, IfOk, Some, OnErr, OnOk, is_some, string_bytes};
+ghost use Rattle.std.specs.Prelude.{◌≡◌, false, true, IfOk, Some, is_some, unwrap_or};
 ghost use Rattle.textarea_editor.specs.Controls.{quit_asked, save_asked, with_focus};
 ghost use Rattle.textarea_editor.specs.Draft.{IsSavedFrom};
-ghost use Rattle.textarea_editor.specs.Editor.{MayQuit, controls_of, draft_of, end_of, message_of};
-ghost use Rattle.textarea_editor.specs.Effects.{Carries, IsSaveAsked, is_saved, optional_bytes};
+ghost use Rattle.textarea_editor.specs.Editor.{controls_of, draft_of, end_of, message_of};
+ghost use Rattle.textarea_editor.specs.Effects.{Carries, IsSaveAsked, IsSavingOf, is_saved, optional_bytes};
 ghost use Rattle.textarea_editor.specs.EventEffects.{quit_effect};
-ghost use Rattle.textarea_editor.specs.SaveEnds.{IsAfterSave, effect_after, message_after, name_restored};
+ghost use Rattle.textarea_editor.specs.Names.{KeepsNames, LeavesNames, NamesBySave, names_of};
+ghost use Rattle.textarea_editor.specs.SaveEnds.{IsAfterSave, effect_after, message_after};
+ghost use Rattle.textarea_editor.specs.Sizes.{KeepsShown, shown_by};
+ghost use Rattle.textarea_editor.specs.StepOf.{IsStepBeside};
 
 use super::Editor;
-use crate::effect::{Effect, SaveEnd};
+use crate::editor::replacing::text_or_empty;
+use crate::effect::{Effect, SaveEnd, SaveRequest};
 use crate::file_text::joined;
 use crate::focus::{Asked, Focus, Question};
 use crate::message::Message;
-use std::alloc::{AllocError, Global};
+use std::alloc::AllocError;
 use std::mem;
 
 impl Editor {
     // Asks the program to save the text, or first for a name if it has none.
     pub(super) fn save(&mut self, overwrites: bool) -> Result<Effect, AllocError>
-        ensures draft { self.new.draft ≡ self.old.draft }
-        ensures carries { IfOk result
-            (Carries (MayQuit self.old self.new.draft) self.new.draft.area self.new.line_end) }
-        ensures end { self.new.line_end ≡ self.old.line_end }
-        ensures effect { IfOk result
-            (IsSaveAsked (is_some self.old.name) (optional_bytes self.old.name) overwrites) }
-        ensures controls { OnOk result (self.new.controls ≡ save_asked self.old.controls
-            (is_some self.old.name) self.old.draft.area.document.cursor) }
-        ensures kept { OnErr result (self.new.controls ≡ self.old.controls) }
+        ensures { IsStepBeside self.old
+            (IsSaveAsked (is_some self.old.name) (optional_bytes self.old.name) overwrites)
+            (λ controls. controls ≡ save_asked self.old.controls (is_some self.old.name)
+            self.old.draft.area.document.cursor)
+            result self.new }
     {
         if self.name.is_none() {
             self.ask(Asked::Name)?;
             return Ok(Effect::Nothing);
         }
-        let name = copied_name(self.allocator(), &self.name)?;
-        let text = joined(self.allocator(), self.draft.area().lines(), self.line_end)?;
+        let saving = self.saving(text_or_empty(&self.name), overwrites)?;
         self.controls.focus = Focus::Text;
-        Ok(Effect::Save {
-            name,
-            text,
-            overwrites,
-        })
+        Ok(Effect::Save(saving))
     }
 
-    /// Takes how a save ended. The text has to be the one that was saved.
+    // Returns the save of the text under this name.
+    pub(super) fn saving(&self, name: &str, overwrites: bool) -> Result<SaveRequest, AllocError>
+        ensures { IfOk result
+            (IsSavingOf self.now.draft.area self.now.line_end name.now overwrites) }
+    {
+        let name = String::from_str(self.allocator(), name)?;
+        let text = joined(self.allocator(), self.draft.area().lines(), self.line_end)?;
+        Ok(SaveRequest::new(name, text, overwrites))
+    }
+
+    /// Takes how a save ended. No event may come between the effect and this.
     ///
     /// After a save the text counts as unchanged, and a run of typing has ended, so that an undo of
     /// what is typed next leads back to the saved text.
     ///
     /// After a save that failed the text is as it was, and counts as changed if it did before; the
-    /// status row tells why, and the prompt for the name is open if another name may help.
-    pub fn saved(&mut self, end: SaveEnd) -> Effect
+    /// status row tells why, and the prompt for the name is open, unless memory ran out for that.
+    pub fn saved(&mut self, saving: SaveRequest, end: SaveEnd) -> Effect
         ensures saved { is_saved end ≡ true
             → IsSavedFrom (draft_of self.old) (draft_of self.new) }
         ensures failed { is_saved end ≡ false → draft_of self.new ≡ draft_of self.old }
@@ -60,7 +65,10 @@ impl Editor {
             (draft_of self.old).area.document.cursor (controls_of self.new) }
         ensures message { message_of self.new ≡ message_after end }
         ensures effect { result ≡ effect_after end (controls_of self.old).ends_when_saved }
+        ensures names { NamesBySave end (names_of self.old) (names_of self.new) }
+        ensures shown { KeepsShown (shown_by self.old) (shown_by self.new) }
     {
+        drop(saving);
         match end {
             SaveEnd::Saved => return self.end_save(Message::Saved),
             SaveEnd::SavedAnew => return self.end_save(Message::SavedAnew),
@@ -73,9 +81,7 @@ impl Editor {
             SaveEnd::Failed(trouble) => {
                 self.message = Message::NotSaved(trouble);
                 self.controls.ends_when_saved = false;
-                if trouble.asks_for_name() {
-                    let _ = self.ask(Asked::Name);
-                }
+                let _ = self.ask(Asked::Name);
             }
         }
         Effect::Nothing
@@ -90,6 +96,8 @@ impl Editor {
         ensures controls { self.new.controls ≡ self.old.controls }
         ensures message { self.new.message ≡ message }
         ensures effect { result ≡ effect_after SaveEnd.Saved self.old.controls.ends_when_saved }
+        ensures names { NamesBySave SaveEnd.Saved (names_of self.old) (names_of self.new) }
+        ensures shown { KeepsShown (shown_by self.old) (shown_by self.new) }
     {
         self.draft.set_saved();
         self.former_name = None;
@@ -102,10 +110,10 @@ impl Editor {
 
     // Gives the file a name, and keeps the one from before until a save succeeds.
     pub(super) fn rename(&mut self, name: String)
-        ensures draft { self.new.draft ≡ self.old.draft }
-        ensures end { self.new.line_end ≡ self.old.line_end }
-        ensures controls { self.new.controls ≡ self.old.controls }
-        ensures name { self.new.name ≡ Some name }
+        ensures { self.new ≡ record self.old {
+          name = Some name;
+          former_name = Some (unwrap_or self.old.former_name self.old.name);
+        } }
     {
         let former = mem::replace(&mut self.name, Some(name));
         if self.former_name.is_none() {
@@ -118,7 +126,8 @@ impl Editor {
         ensures draft { self.new.draft ≡ self.old.draft }
         ensures end { self.new.line_end ≡ self.old.line_end }
         ensures controls { self.new.controls ≡ self.old.controls }
-        ensures name { self.new.name ≡ name_restored self.old.former_name self.old.name }
+        ensures names { LeavesNames Asked.Name (names_of self.old) (names_of self.new) }
+        ensures shown { KeepsShown (shown_by self.old) (shown_by self.new) }
     {
         if let Some(name) = self.former_name.take() {
             self.name = name;
@@ -132,6 +141,8 @@ impl Editor {
         ensures message { self.new.message ≡ message }
         ensures controls { self.new.controls ≡ with_focus self.old.controls
             (Focus.Question Question.Overwrite) }
+        ensures names { KeepsNames (names_of self.old) (names_of self.new) }
+        ensures shown { KeepsShown (shown_by self.old) (shown_by self.new) }
     {
         self.message = message;
         self.controls.focus = Focus::Question(Question::Overwrite);
@@ -140,7 +151,8 @@ impl Editor {
     // Ends the program, after a question if the text may have changed.
     pub(super) fn quit(&mut self) -> Effect
         ensures draft { self.new.draft ≡ self.old.draft }
-        ensures help { self.new.help ≡ self.old.help }
+        ensures names { KeepsNames (names_of self.old) (names_of self.new) }
+        ensures shown { KeepsShown (shown_by self.old) (shown_by self.new) }
         ensures carries { Carries (self.old.draft.is_changed ≡ false) self.new.draft.area
             self.new.line_end result }
         ensures end { self.new.line_end ≡ self.old.line_end }
@@ -153,15 +165,5 @@ impl Editor {
         }
         self.controls.focus = Focus::Question(Question::SaveFirst);
         Effect::Nothing
-    }
-}
-
-// A copy of a name, empty if there is none.
-fn copied_name(alloc: Global, name: &Option<String>) -> Result<String, AllocError>
-    ensures { IfOk result (λ copy. string_bytes copy ≡ optional_bytes name.now) }
-{
-    match name {
-        Some(name) => name.clone(),
-        None => Ok(String::new(alloc)),
     }
 }

@@ -18,14 +18,14 @@ returns-in_err-light-clause-err c =
 
 pub returns-clause-ok : goal.returns-clause-ok
 returns-clause-ok c =
-    on_ok_weaker c.make.result
-    (λ last. makes_then c.args.self.now c.move_to.new.self c.make.new.self (GoTo c.args.origin ∷ []) (search_call c.args.options c.args.text.now ∷ SearchForward true ∷ []) c.in_ok-move_to.ensures.ok
-    (makes_then c.move_to.new.self c.light.new.self c.make.new.self (search_call c.args.options c.args.text.now ∷ []) (SearchForward true ∷ []) c.in_ok-light.ensures.ok last))
-    c.make.ensures.ok
+    on_ok_weaker c.search.result
+    (λ last. makes_then c.args.self.now c.move_to.new.self c.search.new.self (GoTo c.args.origin ∷ []) (search_call c.args.options c.args.text.now ∷ SearchForward true ∷ []) c.in_ok-move_to.ensures.ok
+    (makes_then c.move_to.new.self c.light.new.self c.search.new.self (search_call c.args.options c.args.text.now ∷ []) (SearchForward true ∷ []) c.in_ok-light.ensures.ok last))
+    c.search.ensures.ok
 
 pub returns-clause-err : goal.returns-clause-err
 returns-clause-err c =
-    on_err_weaker c.make.result
-    (λ last. fails_then c.args.self.now c.move_to.new.self c.make.new.self (GoTo c.args.origin ∷ []) (search_call c.args.options c.args.text.now ∷ SearchForward true ∷ []) c.in_ok-move_to.ensures.ok
-    (fails_then c.move_to.new.self c.light.new.self c.make.new.self (search_call c.args.options c.args.text.now ∷ []) (SearchForward true ∷ []) c.in_ok-light.ensures.ok last))
-    c.make.ensures.err
+    on_err_weaker c.search.result
+    (λ last. fails_then c.args.self.now c.move_to.new.self c.search.new.self (GoTo c.args.origin ∷ []) (search_call c.args.options c.args.text.now ∷ SearchForward true ∷ []) c.in_ok-move_to.ensures.ok
+    (fails_then c.move_to.new.self c.light.new.self c.search.new.self (search_call c.args.options c.args.text.now ∷ []) (SearchForward true ∷ []) c.in_ok-light.ensures.ok last))
+    c.search.ensures.err

@@ -1,4 +1,4 @@
-use Rattle.std.proofs.Common.{◌+◌, ◌≤◌, ◌∙◌, arith, subst, sym}
+use Rattle.std.proofs.Common.{◌+◌, ◌≤◌, ◌∙◌, ℕ, arith, subst, sym}
 use Rattle.textarea_editor.proofs.StatusRows.{asked_outside, below_area}
 use Rattle.textarea_editor.proofs.editor.Editor.draw.Goals as goal
 use Rattle.textarea_editor.specs.Editor.{ShowsHelp}
@@ -28,14 +28,19 @@ pub returns-clause-asked : goal.returns-clause-asked
 returns-clause-asked c =
     let below : c.new-above.result.y + c.new-above.result.height ≤ c.new-row.result.y =
     omega (arith, c.new-above.ensures.y, c.new-above.ensures.height, c.new-row.ensures.y) in
+    let asked = c.in_ok-draw_status.ensures.asked in
+    let outside = λ (x : ℕ). below_area c.new-above.result x c.new-row.result.y below in
     record {
       row = c.new-row.result;
+      column = c.new-row.ensures.x;
       last = omega (arith, c.new-row.ensures.y, c.text_rows-rows.ensures);
+      width = omega (arith, c.new-row.ensures.width);
       height = omega (arith, c.new-row.ensures.height, c.min.ensures, c.text_rows-rows.ensures);
       asked = record {
-        end = c.in_ok-draw_status.ensures.asked.end;
-        asked = asked_outside c.args.self.now c.new-row.result c.in_ok-draw_status.ensures.asked.end (contains c.new-above.result) _ _ c.in_ok-draw_above.ensures.outside
-            (λ x h. below_area c.new-above.result x c.new-row.result.y below) c.in_ok-draw_status.ensures.asked.asked;
+        begin = asked.begin;
+        end = asked.end;
+        asked = asked_outside c.args.self.now c.new-row.result asked.begin asked.end (contains c.new-above.result) _ _ c.in_ok-draw_above.ensures.outside
+            (λ x h. outside x) (λ x h. outside x) asked.asked;
       };
     }
 
