@@ -1,5 +1,5 @@
 -- Lemmas on disks.
-use Rattle.std.proofs.Common.{◌≡◌, ◌≢◌, ◌∙◌, ◌++◌, ℕ, length, take, drop, true, false, cond, List, [], ◌∷◌, Option, None, Some, inl, inr, refl, sym, ap, subst, arith}
+use Rattle.std.proofs.Common.{◌≡◌, ◌≢◌, ◌∙◌, ℕ, length, take, drop, true, false, cond, List, [], ◌∷◌, Option, None, Some, inl, inr, refl, sym, ap, subst, arith}
 use Rattle.std.proofs.lemmas.Bool.{eq-eqb}
 use Rattle.std.proofs.lemmas.List.{append-nil, take_all, take-append-drop}
 use Rattle.std.proofs.lemmas.Slice.Eq.{bytes_eq-Decides}
@@ -44,6 +44,11 @@ pub agree_all : (old new : Disk) → ((n : ℕ) → new.files n ≡ old.files n)
 agree_all old new h [] = refl
 agree_all old new h (None ∷ entries) = agree_all old new h entries
 agree_all old new h (Some n ∷ entries) = (h n, agree_all old new h entries)
+
+pub agree_then : (first second third : Disk) (entries : List (Option ℕ)) → Agree first second entries → Agree second third entries → Agree first third entries
+agree_then first second third [] h g = refl
+agree_then first second third (None ∷ entries) h g = agree_then first second third entries h g
+agree_then first second third (Some n ∷ entries) h g = (g.0 ∙ h.0, agree_then first second third entries h.1 g.1)
 
 -- no entry is this file
 abbrev pub Apart : ℕ → List (Option ℕ) → Type 0

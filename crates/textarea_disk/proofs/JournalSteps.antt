@@ -1,8 +1,8 @@
 -- Lemmas on the steps of journals.
-use Rattle.std.proofs.Common.{◌≡◌, ◌≢◌, ◌⊎◌, ◌++◌, ◌<◌, ◌∙◌, ℕ, true, false, List, [], ◌∷◌, length, take, drop, replicate, Option, None, Some, inl, inr, refl, sym, ap, subst, arith}
+use Rattle.std.proofs.Common.{◌≡◌, ◌≢◌, ◌++◌, ◌<◌, ◌∙◌, ℕ, true, false, List, [], ◌∷◌, length, replicate, Option, None, Some, inl, inr, refl, sym, ap, subst, arith}
 use Rattle.std.proofs.lemmas.List.{append-nil, append_assoc, drop_at, take_all, take_at}
 use Rattle.std.specs.List.{AllByRecursion}
-use Rattle.textarea_disk.specs.Disk.{Content, Disk, Entries, File, IsDisk, IsLeftByOne, IsLeftOf, Leaves, Durable, changed_at, changed_file, everything, nothing, up_to, with_entries, with_entry, with_file}
+use Rattle.textarea_disk.specs.Disk.{Content, Disk, Entries, File, IsLeftByOne, IsLeftOf, Leaves, changed_at, changed_file, everything, up_to, with_entries, with_entry, with_file}
 use Rattle.textarea_disk.specs.Journal.{AreRead, IsSized, IsTorn, framed, journal_of}
 use Rattle.textarea_disk.specs.Save.{synced}
 use Rattle.textarea_disk.specs.JournalSteps.{AtEachStep, HasJournal, HasNoJournal, IsGoneOrWhole, LeavesFirst, ReadsFirst, Writing, after_journal_step, after_writing, appended, made_at, removing_steps, writing_steps}

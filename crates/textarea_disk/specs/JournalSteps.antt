@@ -1,5 +1,5 @@
 -- The steps of writes of a journal and of its removal, what each does to a disk, and what a crash leaves to be read.
-use Rattle.std.specs.Prelude.{◌≡◌, ◌≢◌, ◌⊎◌, ◌++◌, ℕ, Bool, true, false, List, [], ◌∷◌, length, take, Option, None, Some}
+use Rattle.std.specs.Prelude.{◌≡◌, ◌++◌, ℕ, Bool, true, false, List, [], ◌∷◌, length, take, Option, None, Some}
 use Rattle.std.specs.List.{AllByRecursion}
 use Rattle.textarea_disk.specs.Disk.{Content, Disk, File, Leaves, Durable, changed_file, everything, nothing, up_to, with_entries, with_entry, with_new_file}
 use Rattle.textarea_disk.specs.Journal.{AreRead, IsSized, journal_of}

@@ -1,11 +1,13 @@
 -- What each step of a save does to a disk, and what is right after a crash or a failure.
-use Rattle.std.specs.Prelude.{◌≡◌, ◌≢◌, ◌⊎◌, ◌++◌, ℕ, true, false, if◌then◌else◌, List, [], ◌∷◌, length, drop, Option, None, Some}
-use Rattle.textarea_disk.specs.Disk.{Content, File, everything, nothing, Disk, IsDisk, Leaves, seen, with_entries, with_entry, with_new_file, changed_file}
+use Rattle.std.specs.Prelude.{◌≡◌, ◌≢◌, ◌⊎◌, ◌++◌, ℕ, if◌then◌else◌, List, [], ◌∷◌, length, drop, Option, None, Some, IsSome}
+use Rattle.textarea_disk.specs.Disk.{Content, File, everything, nothing, Disk, IsDisk, Leaves, MayLeave, seen, with_entries, with_entry, with_new_file, changed_file}
 use Rattle.textarea_disk.specs.Plan.{copy_is_removed}
 use Rattle.textarea_disk.specs.declared.step.DiskStep.{DiskStep}
 use Rattle.textarea_disk.specs.declared.step.DiskStep.TheVariants.{Create, Grow, Write, SetMode, Sync, SyncFolder, Rename, Remove}
 use Rattle.textarea_disk.specs.declared.step.SaveFile.{SaveFile}
 use Rattle.textarea_disk.specs.declared.step.SaveFile.TheVariants as place
+use Rattle.textarea_disk.specs.declared.step.SavePlan.{SavePlan}
+use Rattle.textarea_disk.specs.declared.step.SavePlan.TheVariants.{Beside, InPlace}
 
 -- what is saved: the names of the file and the copy, the text, the mode bits that the file is to have, and those of a new file
 pub record Save : Type 0 where
@@ -69,25 +71,30 @@ AtEachPoint Property save (step ∷ steps) disk = Property disk × AtEachPoint P
 abbrev pub LeavesOnly : Disk → List ℕ → Option Content → Type 0
 LeavesOnly disk name content = Leaves disk name (λ left. left ≡ content)
 
--- a crash leaves what was under the name, or the whole saved file
-abbrev pub LeavesOldOrNew : Save → Option Content → Disk → Type 0
-LeavesOldOrNew save old disk = Leaves disk save.file (λ left. (left ≡ old) ⊎ (left ≡ Some (saved save)))
+-- a crash leaves what it could leave under the name before the save, or the whole saved file
+abbrev pub LeavesOldOrNew : Save → Disk → Disk → Type 0
+LeavesOldOrNew save old disk = Leaves disk save.file (λ left. MayLeave old save.file left ⊎ (left ≡ Some (saved save)))
 
 abbrev pub HasBytes : List ℕ → Option Content → Type 0
 HasBytes bytes None = ⊥
 HasBytes bytes (Some content) = content.bytes ≡ bytes
 
--- a crash leaves what was under the name, or the whole saved file, or else the copy with the whole text under its name
-abbrev pub LeavesWholeText : Save → Option Content → Disk → Type 0
+-- a crash leaves what it could leave under the name before, or the whole saved file, or else the copy with the whole text under its name
+abbrev pub LeavesWholeText : Save → Disk → Disk → Type 0
 LeavesWholeText save old disk =
-    LeavesOnly disk save.file old ⊎ LeavesOnly disk save.file (Some (saved save)) ⊎ Leaves disk save.copy (HasBytes save.text)
+    Leaves disk save.file (MayLeave old save.file) ⊎ LeavesOnly disk save.file (Some (saved save)) ⊎ Leaves disk save.copy (HasBytes save.text)
 
--- a save can begin: the names differ, no file has the copy's name, and a crash leaves only this under the file's name
-pub record CanBegin (save : Save) (disk : Disk) (old : Option Content) : Type 0 where
+-- where the file is written over, there is one
+abbrev pub HasFile : SavePlan → Option ℕ → Type 0
+HasFile Beside entry = Unit {0}
+HasFile InPlace entry = IsSome entry
+
+-- a save can begin: the names differ, and no file has the copy's name
+pub record CanBegin (plan : SavePlan) (save : Save) (disk : Disk) : Type 0 where
   pub is_disk : IsDisk disk
   pub other_name : save.copy ≢ save.file
   pub no_copy : (disk.names save.copy).now ≡ None
-  pub stored : LeavesOnly disk save.file old
+  pub file : HasFile plan (disk.names save.file).now
 
 -- ---- failures
 
@@ -111,7 +118,7 @@ AtEachFailure Property save bytes [] disk = Property disk
 AtEachFailure Property save bytes (step ∷ steps) disk =
     Property (after save (cleanup step) (after_failure save bytes step disk)) × AtEachFailure Property save bytes steps (after_step save step disk)
 
--- the file is as it was or saved, and there is no copy
-pub record IsWhole (save : Save) (old : Option Content) (disk : Disk) : Type 0 where
-  pub file : (seen disk save.file ≡ old) ⊎ (seen disk save.file ≡ Some (saved save))
+-- the file is as it was on the old disk, or saved, and there is no copy
+pub record IsWhole (save : Save) (old disk : Disk) : Type 0 where
+  pub file : (seen disk save.file ≡ seen old save.file) ⊎ (seen disk save.file ≡ Some (saved save))
   pub no_copy : (disk.names save.copy).now ≡ None

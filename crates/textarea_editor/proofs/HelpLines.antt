@@ -1,7 +1,7 @@
 -- Lines that are added one after another.
 use Rattle.std.proofs.Common.{◌≡◌, ◌+◌, ◌-◌, ◌<◌, ◌≤◌, ◌∙◌, ◌∷◌, ◌++◌, ℕ, zero, suc, List, [], ap, append-nil, append_assoc, arith, get_or, length, map, sym, take}
 use Rattle.std.proofs.lemmas.Grind.{flat_map-append}
-use Rattle.std.proofs.lemmas.List.{map-append, take_more}
+use Rattle.std.proofs.lemmas.List.{map-append, take_all, take_more}
 use Rattle.std.specs.List.{flat_map, repeat}
 use Rattle.std.specs.Prelude.{String, string_bytes}
 
@@ -11,6 +11,17 @@ pub grown : {X A : Type 0} (f : X → List A) (xs : List X) (i : ℕ) (d : X) (s
 grown f xs i d start now new h was is =
     is ∙ ap (λ l. l ++ f (get_or xs i d)) was ∙ append_assoc start (flat_map f (take i xs)) (f (get_or xs i d))
     ∙ ap (λ l. start ++ l) (ap (λ l. flat_map f (take i xs) ++ l) (sym (append-nil (f (get_or xs i d)))) ∙ sym (flat_map-append f (take i xs) (get_or xs i d ∷ [])) ∙ ap (λ l. flat_map f l) (sym (take_more xs i d h)))
+
+-- one more row, as at a step of a loop
+pub row_added : {X A : Type 0} (f : X → A) (xs : List X) (i : ℕ) (d : X) (start now new : List A) → i < length xs → now ≡ start ++ map f (take i xs) → new ≡ now ++ f (get_or xs i d) ∷ [] →
+    new ≡ start ++ map f (take (i + 1) xs)
+row_added f xs i d start now new h was is =
+    is ∙ ap (λ l. l ++ f (get_or xs i d) ∷ []) was ∙ append_assoc start (map f (take i xs)) (f (get_or xs i d) ∷ [])
+    ∙ ap (λ l. start ++ l) (sym (map-append f (take i xs) (get_or xs i d ∷ [])) ∙ ap (λ l. map f l) (sym (take_more xs i d h)))
+
+-- all rows are added
+pub all_rows : {X A : Type 0} (f : X → A) (xs : List X) (i : ℕ) (start now : List A) → length xs ≤ i → now ≡ start ++ map f (take i xs) → now ≡ start ++ map f xs
+all_rows f xs i start now h was = was ∙ ap (λ l. start ++ map f l) (take_all i xs h)
 
 -- a line is added
 pub line_added : {Z : Type 0} (old new : List (String Z)) (line : String Z) (words : List ℕ) → new ≡ old ++ line ∷ [] → string_bytes line ≡ words → map string_bytes new ≡ map string_bytes old ++ words ∷ []

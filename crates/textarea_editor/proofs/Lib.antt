@@ -2,6 +2,7 @@ mod StatusRows
 mod Drafts
 mod EventRuns
 mod SaveRuns
+mod ProgramRuns
 mod FileLines
 mod Texts
 mod HelpLines
@@ -17,3 +18,4 @@ mod ReadOnlyTexts
 mod Views
 mod ControlCounts
 mod DiskLemmas
+mod Copying

@@ -20,24 +20,24 @@ use Rattle.textarea_terminal.specs.declared.input.event.Event.{Event}
 use Rattle.textarea_text.specs.Text.{lines}
 
 -- the file has the text of a saved draft, from which the editor was led to its draft
-record StandsAs (file : GivenFile) (now : Editor) : Type 0 where
-  base : Draft
-  saved : IsSaved base
-  honest : IsHonest base now.draft
-  written : IsWritten base.area now.line_end file.text
+pub record StandsAs (file : GivenFile) (now : Editor) : Type 0 where
+  pub base : Draft
+  pub saved : IsSaved base
+  pub honest : IsHonest base now.draft
+  pub written : IsWritten base.area now.line_end file.text
 
 -- the editor was led to its draft from one that counts as changed until it is saved
-record ChangedSince (now : Editor) : Type 0 where
-  base : Draft
-  unsaved : IsUnsaved base
-  honest : IsHonest base now.draft
+pub record ChangedSince (now : Editor) : Type 0 where
+  pub base : Draft
+  pub unsaved : IsUnsaved base
+  pub honest : IsHonest base now.draft
 
-abbrev Stands : Option GivenFile → Editor → Type 0
+abbrev pub Stands : Option GivenFile → Editor → Type 0
 Stands None now = Unit {0}
 Stands (Some file) now = StandsAs file now ⊎ ChangedSince now
 
 -- the draft was led to another one, and how its lines end is the same
-led : (given : Option GivenFile) (old new : Editor) → IsHonest old.draft new.draft → new.line_end ≡ old.line_end → Stands given old → Stands given new
+pub led : (given : Option GivenFile) (old new : Editor) → IsHonest old.draft new.draft → new.line_end ≡ old.line_end → Stands given old → Stands given new
 led None old new honest end stands = tt
 led (Some file) old new honest end (inl stands) = inl (record {
   base = stands.base;
@@ -77,7 +77,7 @@ carried given old asked new now event (Save saving) end step is stands = told gi
 carried given old asked new now event Recover end step is stands = recovered given asked new is stands
 carried given old asked new now event effect end step is stands = kept given asked new is.draft is.end stands
 
-turns_stand : (given : Option GivenFile) (old new : Editor) (turns : List Turn) → AreTurns old turns new → Stands given old → Stands (given_after given turns) new
+pub turns_stand : (given : Option GivenFile) (old new : Editor) (turns : List Turn) → AreTurns old turns new → Stands given old → Stands (given_after given turns) new
 turns_stand given old new [] same stands = subst (λ (e : Editor). Stands given e) (sym same) stands
 turns_stand given old new (this ∷ later) are stands =
     let moment = this.moment in
@@ -85,7 +85,7 @@ turns_stand given old new (this ∷ later) are stands =
     (carried given old moment.after this.after moment.now moment.event moment.effect this.end are.0 are.1
     (led given old moment.after (step_honest old moment.after moment.now moment.event moment.effect are.0.led) are.0.end stands))
 
-unchanged_stands : (file : GivenFile) (now : Editor) → (StandsAs file now ⊎ ChangedSince now) → now.draft.is_changed ≡ false → IsWritten now.draft.area now.line_end file.text
+pub unchanged_stands : (file : GivenFile) (now : Editor) → (StandsAs file now ⊎ ChangedSince now) → now.draft.is_changed ≡ false → IsWritten now.draft.area now.line_end file.text
 unchanged_stands file now (inl stands) is = record {
   strings = stands.written.strings;
   of_text = stands.written.of_text ∙ sym (ap lines (unchanged_is_saved stands.base now.draft stands.honest stands.saved is));
@@ -93,12 +93,6 @@ unchanged_stands file now (inl stands) is = record {
 }
 unchanged_stands file now (inr changed) is = absurd (false≢true (sym is ∙ unsaved_is_changed changed.base now.draft changed.honest changed.unsaved))
 
-stands_first : (first : Option GivenFile) (opened : Editor) → HasText first opened → Stands first opened
+pub stands_first : (first : Option GivenFile) (opened : Editor) → HasText first opened → Stands first opened
 stands_first None opened has = tt
 stands_first (Some file) opened has = inl (record { base = opened.draft; saved = has.0; honest = honest_same opened.draft; written = has.1 })
-
--- a text that counts as unchanged is the one that the disk was given last
-pub unchanged_is_given : (opened now : Editor) (turns : List Turn) (first : Option GivenFile) (file : GivenFile) → HasText first opened → AreTurns opened turns now → given_after first turns ≡ Some file
-    → now.draft.is_changed ≡ false → IsWritten now.draft.area now.line_end file.text
-unchanged_is_given opened now turns first file has are given is =
-    unchanged_stands file now (subst (λ (g : Option GivenFile). Stands g now) given (turns_stand first opened now turns are (stands_first first opened has))) is

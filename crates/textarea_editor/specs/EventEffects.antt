@@ -1,8 +1,11 @@
 -- What each event asks the program to do, as a table: by what the next key is for, the key, and the
 -- command that it is bound to.
 use Rattle.std.specs.Prelude.{◌≡◌, ◌≢◌, ℕ, Bool, true, false, List, [], Option, None, Some, String, is_some}
+use Rattle.std.specs.List.{list_any}
 use Rattle.std.specs.Str.{chars}
 use Rattle.std.specs.declared.alloc.Global.{Global}
+use Rattle.textarea_calls.specs.declared.call.Call.{Call}
+use Rattle.textarea_calls.specs.declared.call.Call.TheVariants as call
 use Rattle.textarea_data.specs.declared.input.Input.{Input}
 use Rattle.textarea_data.specs.declared.input.Key.{Key}
 use Rattle.textarea_data.specs.declared.input.Key.TheVariants.{MouseScrollDown, MouseScrollUp}
@@ -28,8 +31,10 @@ use Rattle.textarea_editor.specs.declared.keys.KeyCommand.{KeyCommand}
 use Rattle.textarea_editor.specs.declared.keys.KeyCommand.TheVariants as command
 use Rattle.textarea_editor.specs.declared.replace_keys.ReplaceKey.{ReplaceKey}
 use Rattle.textarea_editor.specs.declared.replace_keys.ReplaceKey.TheVariants as replace
+use Rattle.textarea_modal.specs.Calls.{key_call}
 use Rattle.textarea_modal.specs.Table.{step}
 use Rattle.textarea_modal.specs.declared.mode.Mode.{Mode}
+use Rattle.textarea_modal.specs.declared.step.KeyCall.{KeyCall}
 use Rattle.textarea_terminal.specs.declared.input.event.Event.{Event}
 use Rattle.textarea_terminal.specs.declared.input.event.Event.TheVariants as event
 use Rattle.tui_textarea.specs.State.{State}
@@ -63,15 +68,25 @@ IsCommandEffect name changed selecting command.Cut effect = IsSelectionCopied se
 IsCommandEffect name changed selecting command.Copy effect = IsSelectionCopied selecting effect
 IsCommandEffect name changed selecting other effect = effect ≡ Nothing
 
--- a step of the modal editor, which quits or may copy
-pub record IsModalEffect (quits changed : Bool) (effect : Effect) : Type 0 where
+-- whether a call copies text
+abbrev pub is_copying : Call → Bool
+is_copying call.Cut = true
+is_copying call.Copy = true
+is_copying other = false
+
+abbrev pub key_copies : KeyCall → Bool
+key_copies made = is_copying (key_call made)
+
+-- a step of the modal editor: one that quits, one that copies, or another
+pub record IsModalEffect (quits copying changed : Bool) (effect : Effect) : Type 0 where
   pub ends : quits ≡ true → effect ≡ quit_effect changed
-  pub stays : quits ≡ false → IsCopied effect
+  pub copied : quits ≡ false → copying ≡ true → IsCopied effect
+  pub silent : quits ≡ false → copying ≡ false → effect ≡ Nothing
 
 -- a key of the modal editor, if there is one, or of the text area
 abbrev pub IsTypedEffect : Option Mode → Bool → Input → Effect → Type 0
 IsTypedEffect None changed input effect = effect ≡ Nothing
-IsTypedEffect (Some mode) changed input effect = IsModalEffect (step mode input).quits changed effect
+IsTypedEffect (Some mode) changed input effect = IsModalEffect (step mode input).quits (list_any is_copying (step mode input).calls) changed effect
 
 -- a key that is bound to no command
 abbrev pub IsUnboundEffect : Key → Option Mode → Bool → Input → Effect → Type 0

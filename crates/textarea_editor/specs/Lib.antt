@@ -28,6 +28,7 @@ pub mod PromptKeys
 pub mod PromptText
 pub mod ReplaceKeys
 pub mod Replies
+pub mod Runs
 pub mod SaveEnds
 pub mod SavingSteps
 pub mod Savings

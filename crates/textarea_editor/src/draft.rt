@@ -8,6 +8,7 @@ ghost use Rattle.textarea_calls.specs.declared.call.Call.TheVariants.{SetNow};
 ghost use Rattle.textarea_modal.specs.Calls.{OfStep};
 ghost use Rattle.textarea_modal.specs.Runs.{AllMade, OneRunsOut};
 ghost use Rattle.textarea_modal.specs.Table.{passed_on};
+ghost use Rattle.textarea_modal.specs.declared.mode.Mode.{Mode};
 ghost use Rattle.textarea_screen.specs.Buffer.{KeepsOutside};
 ghost use Rattle.textarea_screen.specs.Rect.{contains};
 ghost use Rattle.tui_textarea.specs.CallResults.{call_result};
@@ -15,6 +16,7 @@ ghost use Rattle.tui_textarea.specs.Drawing.{IsRendered, widget_of};
 ghost use Rattle.tui_textarea.specs.Measure.{reads_rows};
 ghost use Rattle.tui_textarea.specs.Rendered.{IsDrawn};
 ghost use Rattle.textarea_editor.specs.Draft.{FailsIn, HasCopy, IsChangeMark, IsMarkAfter, IsMeasuredRows, IsSaved, IsSavedFrom, IsUndrawn, Makes, has_found, is_made, plain_calls};
+ghost use Rattle.textarea_editor.specs.EventEffects.{is_copying, key_copies};
 ghost use Rattle.textarea_editor.specs.SearchMessages.{has_match, searches};
 ghost use Rattle.textarea_editor.specs.SetUp.{read_only};
 ghost use Rattle.textarea_text.specs.Text.{lines_of};
@@ -296,12 +298,24 @@ fn any_edits(calls: &[Call<'_>]) -> bool
 }
 
 /// Returns whether what a key does in the modal editor copies text.
-pub fn copies(reaction: &Reaction) -> bool {
+pub fn copies(reaction: &Reaction) -> bool
+    ensures { (mode : Mode) →
+        OfStep mode reaction.now (λ step. result ≡ list_any is_copying step.calls) }
+{
     match reaction {
-        Reaction::Step(step) => step
-            .calls
-            .iter()
-            .any(|call| matches!(call, KeyCall::Cut | KeyCall::Copy)),
+        Reaction::Step(step) => any_copies(step.calls),
         Reaction::PassOn(_) => false,
     }
+}
+
+fn any_copies(calls: &[KeyCall]) -> bool
+    ensures { result ≡ list_any key_copies calls.now }
+{
+    calls.iter().any(|call| key_copies(*call))
+}
+
+fn key_copies(call: KeyCall) -> bool
+    ensures { result ≡ key_copies call }
+{
+    matches!(call, KeyCall::Cut | KeyCall::Copy)
 }

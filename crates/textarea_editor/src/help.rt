@@ -80,19 +80,14 @@ fn push_search_keys(alloc: Global, lines: &mut Vec<String>) -> Result<(), AllocE
     ensures { OnOk result (map string_bytes lines.new.items
         ≡ map string_bytes lines.old.items ++ map row_of_pair search_keys) }
 {
-    push_row(
-        alloc,
-        lines,
-        "Enter, Down, Up",
-        "in a search: next match, match before",
-    )?;
-    push_row(
-        alloc,
-        lines,
-        "Alt C, Alt W, Alt R",
-        "in a search: its case, whole words, a pattern",
-    )?;
-    Ok(())
+    let rows = [
+        ("Enter, Down, Up", "in a search: next match, match before"),
+        (
+            "Alt C, Alt W, Alt R",
+            "in a search: its case, whole words, a pattern",
+        ),
+    ];
+    push_rows(alloc, lines, &rows)
 }
 
 // Adds the keys of the modal editor.
@@ -100,33 +95,18 @@ fn push_modal_keys(alloc: Global, lines: &mut Vec<String>) -> Result<(), AllocEr
     ensures { OnOk result (map string_bytes lines.new.items
         ≡ map string_bytes lines.old.items ++ map row_of_pair modal_keys) }
 {
-    push_row(alloc, lines, "h j k l w e b", "move")?;
-    push_row(
-        alloc,
-        lines,
-        "0 $ { } g G",
-        "to the start or end of line, paragraph, text",
-    )?;
-    push_row(alloc, lines, "i a I A o O", "insert; Esc ends it")?;
-    push_row(
-        alloc,
-        lines,
-        "d y c",
-        "delete, copy, change over a move; twice: a line",
-    )?;
-    push_row(
-        alloc,
-        lines,
-        "x D C p u",
-        "delete, paste, undo; Ctrl R redoes",
-    )?;
-    push_row(
-        alloc,
-        lines,
-        "v V n N q",
-        "select, next match, match before, quit",
-    )?;
-    Ok(())
+    let rows = [
+        ("h j k l w e b", "move"),
+        (
+            "0 $ { } g G",
+            "to the start or end of line, paragraph, text",
+        ),
+        ("i a I A o O", "insert; Esc ends it"),
+        ("d y c", "delete, copy, change over a move; twice: a line"),
+        ("x D C p u", "delete, paste, undo; Ctrl R redoes"),
+        ("v V n N q", "select, next match, match before, quit"),
+    ];
+    push_rows(alloc, lines, &rows)
 }
 
 // Adds what the mouse does.
@@ -134,19 +114,11 @@ fn push_mouse_keys(alloc: Global, lines: &mut Vec<String>) -> Result<(), AllocEr
     ensures { OnOk result (map string_bytes lines.new.items
         ≡ map string_bytes lines.old.items ++ map row_of_pair mouse_keys) }
 {
-    push_row(
-        alloc,
-        lines,
-        "mouse",
-        "click moves, drag selects, wheel scrolls",
-    )?;
-    push_row(
-        alloc,
-        lines,
-        "double, triple click",
-        "select the word, the line",
-    )?;
-    Ok(())
+    let rows = [
+        ("mouse", "click moves, drag selects, wheel scrolls"),
+        ("double, triple click", "select the word, the line"),
+    ];
+    push_rows(alloc, lines, &rows)
 }
 
 // Adds a row for each action of the text area, with all keys that ask for it, and those of the mouse.
@@ -310,6 +282,21 @@ fn is_same(one: &Input, other: &Input) -> bool
     ensures { result ≡ is_same_input one.now other.now }
 {
     about_input(one) == about_input(other)
+}
+
+// Adds rows, each of names and of what they do.
+fn push_rows(
+    alloc: Global,
+    lines: &mut Vec<String>,
+    rows: &[(&str, &str)],
+) -> Result<(), AllocError>
+    ensures { OnOk result (map string_bytes lines.new.items
+        ≡ map string_bytes lines.old.items ++ map (λ row. help_row row.0.now row.1.now) rows.now) }
+{
+    for row in rows {
+        push_row(alloc, lines, row.0, row.1)?;
+    }
+    Ok(())
 }
 
 // Adds a row: names, and what they do.

@@ -2,7 +2,8 @@
 
 ghost use Rattle.std.specs.List.{list_any};
 ghost use Rattle.std.specs.Prelude.{◌≡◌, ◌⊎◌, ◌++◌, None, true, false, map, IfOk, OnErr, OnOk};
-ghost use Rattle.textarea_editor.specs.Editor.{IsScreenArea, draft_of, end_of};
+ghost use Rattle.textarea_editor.specs.Editor.{IsScreenArea};
+ghost use Rattle.textarea_editor.specs.Screen.{IsOnlyDrawn};
 ghost use Rattle.textarea_editor.specs.TerminalScreen.{IsFitted, IsFrameShown, clipboard_bytes, events_read, pause_of, reports_size, screen_read};
 ghost use Rattle.textarea_terminal.specs.InputEvent.{value_of};
 ghost use Rattle.textarea_terminal.specs.InputState.{new_decoder, on_console, with_expected};
@@ -124,8 +125,7 @@ impl Screen {
         ensures shown { OnOk result (IsFrameShown self.old self.new editor.old editor.new
             out.old.items out.new.items) }
         ensures area { OnOk result (IsScreenArea editor.old (painter_area self.new.painter)) }
-        ensures changed { (draft_of editor.new).is_changed ≡ (draft_of editor.old).is_changed }
-        ensures end { end_of editor.new ≡ end_of editor.old }
+        ensures keeps { IsOnlyDrawn editor.old editor.new }
         ensures unwritten { OnErr result (out.new.items ≡ out.old.items) }
         // The terminal is known to show what it showed, or nothing is known of it.
         ensures unshown { OnErr result ((self.new ≡ self.old)

@@ -1,7 +1,7 @@
 // Drawing of a frame: the text or the help, and below it the status row.
 ghost use Rattle.std.specs.Prelude.{◌≡◌, ◌+◌, ◌-◌, IfOk, OnOk, string_bytes};
-ghost use Rattle.textarea_editor.specs.Editor.{IsScreenArea, ShowsHelp, controls_of, draft_of, end_of, field_of, screen_columns_of, screen_rows_of};
-ghost use Rattle.textarea_editor.specs.Screen.{IsFrameCaret, IsPainted};
+ghost use Rattle.textarea_editor.specs.Editor.{IsScreenArea, ShowsHelp, controls_of, draft_of, field_of, screen_columns_of, screen_rows_of};
+ghost use Rattle.textarea_editor.specs.Screen.{IsFrameCaret, IsOnlyDrawn, IsOnlyLaidOut, IsPainted};
 ghost use Rattle.textarea_editor.specs.StatusRow.{IsAskedBefore, IsAskedInLast, IsAskedInRow, IsDrawnIn, at_left, is_from, line_of_words, row_style};
 ghost use Rattle.textarea_paint.specs.Row.{row_cell};
 ghost use Rattle.textarea_screen.specs.Buffer.{Changes, KeepsOutside};
@@ -40,10 +40,10 @@ impl Editor {
         self.rows.saturating_sub(1)
     }
 
-    /// Draws the status row, and above it the text, or the help.
+    /// Draws the status row, and above it the text, or the help. Nothing but how the text, the prompt
+    /// and the help are laid out may be another, also after an error.
     pub fn draw(&mut self) -> Result<DrawnFrame, AllocError>
-        ensures changed { (draft_of self.new).is_changed ≡ (draft_of self.old).is_changed }
-        ensures end { end_of self.new ≡ end_of self.old }
+        ensures keeps { IsOnlyDrawn self.old self.new }
         ensures text { ¬ ShowsHelp self.old → IfOk result (λ frame. IsPainted
             (draft_of self.old).area (draft_of self.new).area (screen_columns_of self.old)
             (screen_rows_of self.old - 1) frame.buffer) }
@@ -66,9 +66,12 @@ impl Editor {
 
     // Draws the text, or the help.
     fn draw_above(&mut self, above: Rect, buffer: &mut Buffer) -> Result<(), AllocError>
-        ensures changed { self.new.draft.is_changed ≡ self.old.draft.is_changed }
-        ensures end { self.new.line_end ≡ self.old.line_end }
-        ensures focus { self.new.controls.focus ≡ self.old.controls.focus }
+        ensures area { IsOnlyLaidOut self.old.draft.area self.new.draft.area }
+        ensures help { IsOnlyLaidOut self.old.help self.new.help }
+        ensures keeps { self.new ≡ record self.old {
+          draft = record self.old.draft { area = self.new.draft.area };
+          help = self.new.help;
+        } }
         ensures rendered { ¬ ShowsHelp self.old → OnOk result
             (IsRendered self.old.draft.area above self.new.draft.area) }
         ensures cells { ¬ ShowsHelp self.old → OnOk result
@@ -97,9 +100,8 @@ impl Editor {
     // Draws the status row.
     #[tactic(auto, using(crate::proofs::StatusRows::asked_here, crate::proofs::StatusRows::asked_beside))]
     fn draw_status(&mut self, row: Rect, buffer: &mut Buffer) -> Result<(), AllocError>
-        ensures draft { self.new.draft ≡ self.old.draft }
-        ensures focus { self.new.controls.focus ≡ self.old.controls.focus }
-        ensures end { self.new.line_end ≡ self.old.line_end }
+        ensures field { IsOnlyLaidOut self.old.field self.new.field }
+        ensures keeps { self.new ≡ record self.old { field = self.new.field } }
         ensures asked { OnOk result (IsAskedInRow self.old row buffer.new) }
     {
         let field = self.draw_words(row, buffer)?;
@@ -135,9 +137,8 @@ impl Editor {
 
     // Draws the prompt's text.
     fn draw_field(&mut self, area: Rect, buffer: &mut Buffer) -> Result<(), AllocError>
-        ensures draft { self.new.draft ≡ self.old.draft }
-        ensures focus { self.new.controls.focus ≡ self.old.controls.focus }
-        ensures end { self.new.line_end ≡ self.old.line_end }
+        ensures field { IsOnlyLaidOut self.old.field self.new.field }
+        ensures keeps { self.new ≡ record self.old { field = self.new.field } }
         ensures outside { KeepsOutside (contains area) buffer.old buffer.new }
     {
         self.field.set_style(row_style());

@@ -1,7 +1,8 @@
 // Keys in the text, and texts that are pasted into it.
 ghost use Rattle.std.specs.Prelude.{◌≡◌, ◌-◌, is_some};
+ghost use Rattle.std.specs.List.{list_any};
 ghost use Rattle.textarea_editor.specs.Controls.{IsAfterKey, after_modal_step, after_typed, after_unbound};
-ghost use Rattle.textarea_editor.specs.EventEffects.{IsKeyEffect, IsModalEffect, IsNothing, IsTypedEffect, IsUnboundEffect};
+ghost use Rattle.textarea_editor.specs.EventEffects.{IsKeyEffect, IsModalEffect, IsNothing, IsTypedEffect, IsUnboundEffect, is_copying};
 ghost use Rattle.textarea_editor.specs.EventCalls.{IsFit, IsKeyInText, is_selecting, own_calls, paste_calls, typed_calls, unbound_calls};
 ghost use Rattle.textarea_editor.specs.Indents.{keeps_indent};
 ghost use Rattle.textarea_modal.specs.Table.{step};
@@ -102,7 +103,8 @@ impl Editor {
     fn take_modal(&mut self, modal: Modal, input: &Input) -> Result<Effect, AllocError>
         ensures { IsStepBy self.old
             (step modal input.now).calls
-            (IsModalEffect (step modal input.now).quits self.new.draft.is_changed)
+            (IsModalEffect (step modal input.now).quits
+            (list_any is_copying (step modal input.now).calls) self.new.draft.is_changed)
             (λ controls. controls ≡ after_modal_step self.old.controls self.new.draft.is_changed
             (step modal input.now))
             result self.new }

@@ -1,4 +1,4 @@
-use Rattle.std.proofs.Common.{ℕ, length, map}
+use Rattle.std.proofs.Common.{length, map}
 use Rattle.textarea_disk.proofs.Journals.{IsReadUpTo}
 use Rattle.textarea_disk.proofs.journal.records_in.Given as goal
 

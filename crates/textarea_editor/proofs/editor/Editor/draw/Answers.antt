@@ -1,16 +1,17 @@
-use Rattle.std.proofs.Common.{◌+◌, ◌≤◌, ◌∙◌, ℕ, arith, subst, sym}
+use Rattle.std.proofs.Common.{◌+◌, ◌≤◌, ◌∙◌, ℕ, ap, arith, subst, sym}
 use Rattle.textarea_editor.proofs.StatusRows.{asked_outside, below_area}
 use Rattle.textarea_editor.proofs.editor.Editor.draw.Goals as goal
 use Rattle.textarea_editor.specs.Editor.{ShowsHelp}
 use Rattle.textarea_editor.specs.Screen.{IsFrameCaret}
 use Rattle.textarea_editor.specs.declared.draft.Draft.{Draft}
+use Rattle.textarea_editor.specs.declared.editor.Editor.{Editor}
 use Rattle.textarea_editor.specs.declared.focus.Focus.{Focus}
 use Rattle.textarea_screen.specs.Rect.{contains}
 use Rattle.tui_textarea.specs.Drawing.{IsRendered}
 
 pub returns-clause-text : goal.returns-clause-text
 returns-clause-text c = λ not_help.
-    let shows : ShowsHelp c.draw_status.new.self → ⊥ = λ is. not_help (sym c.in_ok-draw_status.ensures.focus ∙ is) in
+    let shows : ShowsHelp c.draw_status.new.self → ⊥ = λ is. not_help (sym (ap (λ (e : Editor). e.controls.focus) c.in_ok-draw_status.ensures.keeps) ∙ is) in
     let above = c.new-above.result in
     let rendered = c.in_ok-draw_above.ensures.rendered shows in
     record {
@@ -19,7 +20,7 @@ returns-clause-text c = λ not_help.
       row = c.new-above.ensures.y;
       width = omega (arith, c.new-above.ensures.width);
       height = omega (arith, c.new-above.ensures.height, c.text_rows-rows.ensures);
-      rendered = subst (λ (d : Draft). IsRendered d.area above c.draw_above.new.self.draft.area) c.in_ok-draw_status.ensures.draft rendered;
+      rendered = subst (λ (d : Draft). IsRendered d.area above c.draw_above.new.self.draft.area) (ap (λ (e : Editor). e.draft) c.in_ok-draw_status.ensures.keeps) rendered;
       before = c.draw_status.new.buffer;
       drawn = c.in_ok-draw_above.ensures.cells shows;
     }
@@ -47,4 +48,4 @@ returns-clause-asked c =
 pub returns-clause-caret : goal.returns-clause-caret
 returns-clause-caret c =
     subst (λ (f : Focus). IsFrameCaret f c.draw_above.new.self.draft.area c.draw_above.new.self.field c.caret-cursor.result)
-    (c.in_ok-draw_above.ensures.focus ∙ c.in_ok-draw_status.ensures.focus) c.caret-cursor.ensures
+    (ap (λ (e : Editor). e.controls.focus) c.in_ok-draw_above.ensures.keeps ∙ ap (λ (e : Editor). e.controls.focus) c.in_ok-draw_status.ensures.keeps) c.caret-cursor.ensures
