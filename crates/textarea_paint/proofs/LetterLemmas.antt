@@ -35,7 +35,7 @@ is_one Ambiguous = true
 is_one Alef = true
 is_one _ = false
 
-is_two : Kind → Bool
+unfoldable pub is_two : Kind → Bool
 is_two Wide = true
 is_two Emoji = true
 is_two _ = false
@@ -47,7 +47,7 @@ one_column Ambiguous c is = refl
 one_column Alef c is = refl
 one_column _ c is = absurd (false≢true is)
 
-two_columns : (k : Kind) (c : ℕ) → is_two k ≡ true → (of_kind false c k).0 ≡ 2
+pub two_columns : (k : Kind) (c : ℕ) → is_two k ≡ true → (of_kind false c k).0 ≡ 2
 unfolding is_two
 two_columns Wide c is = refl
 two_columns Emoji c is = refl
@@ -56,10 +56,10 @@ two_columns _ c is = absurd (false≢true is)
 if_narrow : Bool → Kind → Bool
 if_narrow letter k = not letter || is_one k
 
-if_wide : Bool → Kind → Bool
+unfoldable pub if_wide : Bool → Kind → Bool
 if_wide letter k = not letter || is_two k
 
-if_letter : Bool → Bool → Bool
+unfoldable pub if_letter : Bool → Bool → Bool
 if_letter letter simple = not letter || simple
 
 european_letters-stepped : Stepped (in_ranges european_letters)
@@ -112,11 +112,11 @@ other_wide_letters-simple c = Stepped-everywhere _ (zip_stepped if_letter (in_ra
 
 -- ---- a letter
 
-then_holds : (letter holds : Bool) → (not letter || holds) ≡ true → letter ≡ true → holds ≡ true
+pub then_holds : (letter holds : Bool) → (not letter || holds) ≡ true → letter ≡ true → holds ≡ true
 then_holds true holds fits is = fits
 then_holds false holds fits is = absurd (false≢true is)
 
-either : (P : Type 0) (a b : Bool) → (a ≡ true → P) → (b ≡ true → P) → (a || b) ≡ true → P
+pub either : (P : Type 0) (a b : Bool) → (a ≡ true → P) → (b ≡ true → P) → (a || b) ≡ true → P
 either P true b left right is = left refl
 either P false b left right is = right is
 
@@ -160,7 +160,7 @@ narrow_from : (c : ℕ) → is_narrow c ≡ true → 0xA0 ≤ c
 unfolding in_ranges
 narrow_from c is = grind (arith, nat_tests)
 
-columns_alone : (c n : ℕ) → 0xA0 ≤ c → (of_kind false c (kind c)).0 ≡ n → char_columns c ≡ n
+pub columns_alone : (c n : ℕ) → 0xA0 ≤ c → (of_kind false c (kind c)).0 ≡ n → char_columns c ≡ n
 unfolding char_width alone
 columns_alone c n from is = grind (arith, nat_tests)
 
@@ -258,7 +258,7 @@ graphemes-letters columns (c ∷ letters) text after all utf8 is apart =
     next (d ∷ letters) rest all valid same =
         (begins-with columns rest (encode_utf8_all letters ++ after) d valid (same ∙ append_assoc (encode_utf8 d) (encode_utf8_all letters) after) all.0).apart
 
-chars-letters : (letters text after : List ℕ) → IsUtf8 text → text ≡ encode_utf8_all letters ++ after → chars text ≡ letters ++ chars after
+pub chars-letters : (letters text after : List ℕ) → IsUtf8 text → text ≡ encode_utf8_all letters ++ after → chars text ≡ letters ++ chars after
 chars-letters [] text after utf8 is = ap chars is
 chars-letters (c ∷ letters) text after utf8 is =
     let rest = encode_utf8_all letters ++ after in

@@ -1,9 +1,10 @@
 //! Grapheme clusters in the cells of a row, from left to right.
 ghost use Rattle.std.specs.Prelude.{◌≡◌, ◌+◌, ◌<◌, ◌≤◌, ℕ, length, chars, [], ◌∷◌, All, IfOk, IsOk, OnOk, OnErr};
-ghost use Rattle.textarea_paint.specs.LetterWalk.{IsLetterWalk};
 ghost use Rattle.textarea_paint.specs.Letters.{AreLetters};
 ghost use Rattle.textarea_paint.specs.LineClusters.{FitsKind};
-ghost use Rattle.textarea_paint.specs.Prelude.{AreInline, letter_clusters, Changes, KeepsOutside, INLINE_BYTES, IsAnyPen, IsPenAt, IsColumnWithin, IsPrintable, row_change, area_of, is_in_cells, is_room_at, place_from, placed_at, clusters_width, columns_of, plain_clusters, run_clusters, styled_cluster};
+ghost use Rattle.textarea_paint.specs.Units.{AreUnits};
+ghost use Rattle.textarea_paint.specs.Walk.{IsWalk};
+ghost use Rattle.textarea_paint.specs.Prelude.{AreInline, letter_clusters, Changes, KeepsOutside, INLINE_BYTES, IsAnyPen, IsPenAt, IsColumnWithin, IsPrintable, row_change, area_of, is_in_cells, is_room_at, place_from, placed_at, clusters_width, columns_of, plain_clusters, run_clusters, styled_cluster, text_clusters};
 
 use super::clusters::{ClusterRun, RunKind, StyledCluster};
 use super::letters::split_letter;
@@ -63,7 +64,51 @@ pub(crate) fn draw_run(
             };
             draw_letters(buffer, cells, pen, letters, run.columns)
         }
+        RunKind::Units(bytes) => {
+            let units = StyledCluster {
+                text: run.text,
+                style: run.style,
+            };
+            draw_units(buffer, cells, pen, units, run.columns, bytes)
+        }
     }
+}
+
+/// Draws units of this many columns and bytes each at the pen, and moves the pen after them, at most
+/// to the end of the cells.
+fn draw_units(
+    buffer: &mut Buffer,
+    cells: RowCells,
+    pen: Pen,
+    units: StyledCluster,
+    columns: usize,
+    bytes: usize,
+) -> Result<Pen, AllocError>
+    requires edge { cells.x + cells.width ≤ 65535 }
+    requires within { IsColumnWithin cells pen.x }
+    requires units { AreUnits columns bytes units.text.now }
+    requires pen { IsAnyPen cells pen }
+    ensures moved { (left column : ℕ) → IsPenAt cells left column pen
+        → IfOk result (IsPenAt cells left
+        (column + clusters_width (text_clusters units.entry.style units.entry.text.now))) }
+    ensures drawn { (left column : ℕ) → IsPenAt cells left column pen
+        → OnOk result (Changes buffer.old buffer.new (row_change cells left
+        (place_from column (text_clusters units.entry.style units.entry.text.now)))) }
+    ensures within { IfOk result (λ moved. IsColumnWithin cells moved.x) }
+    ensures inline { AreInline (text_clusters units.entry.style units.entry.text.now)
+        → IsOk result }
+    ensures err { OnErr result (KeepsOutside (is_in_cells cells) buffer.old buffer.new) }
+{
+    let style = units.style;
+    let mut pen = pen;
+    let mut rest = units.text;
+    'units: while !rest.is_empty() {
+        let text = &rest[..bytes];
+        let unit = StyledCluster { text, style };
+        pen = draw_cluster(buffer, cells, pen, unit, columns)?;
+        rest = &rest[bytes..];
+    }
+    Ok(pen)
 }
 
 /// Draws letters of this many columns each at the pen, and moves the pen after them, at most to the
@@ -116,8 +161,10 @@ fn draw_first_letters<'a>(
     requires within { IsColumnWithin cells pen.x }
     requires letters { AreLetters columns letters.now }
     requires pen { IsAnyPen cells pen }
-    ensures walk { IfOk result (λ after. IsLetterWalk cells style columns pen after.0
-        letters.now after.1.now buffer.old buffer.new) }
+    ensures walk { IfOk result (λ after. IsWalk cells pen after.0
+        (letter_clusters style letters.now) (letter_clusters style after.1.now)
+        buffer.old buffer.new) }
+    ensures letters { IfOk result (λ after. AreLetters columns after.1.now) }
     ensures fewer { IfOk result (λ after.
         length (chars after.1.now) < length (chars letters.now)) }
     ensures inline { AreInline (letter_clusters style letters.now) → IsOk result }

@@ -30,10 +30,17 @@ pub(super) fn split_letters<'a>(text: &'a str, most: usize) -> Option<Front<'a>>
 }
 
 /// Returns how many letters of this many columns reach over `most` columns.
-fn letters_within(most: usize, columns: usize) -> usize
-    ensures { result ≤ most }
+pub(super) fn letters_within(most: usize, columns: usize) -> usize
+    ensures bound { result ≤ most }
+    ensures some { 0 < most → 0 < result }
 {
-    if columns == 2 { most - most / 2 } else { most }
+    if columns < 2 {
+        most
+    } else if columns < 4 {
+        most - most / 2
+    } else {
+        most - most / 4 * 3
+    }
 }
 
 /// Returns the text after letters of this many columns, at most `most`, or the same text.
