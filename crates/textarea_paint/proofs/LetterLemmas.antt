@@ -1,7 +1,7 @@
 -- Letters: a run of them is split into its characters, and each takes the columns that its number tells.
 use Rattle.std.proofs.Common.{◌≡◌, ◌⊎◌, ℕ, suc, ◌+◌, ◌-◌, ◌<◌, ◌≤◌, Bool, true, false, cond, not, ◌||◌, nat_lt, List, [], ◌∷◌, ◌++◌, length, map, take, drop, Option, None, Some, IfSome, inl, inr}
 use Rattle.std.proofs.Common.{refl, sym, ap, ap₂, subst, ◌∙◌, arith}
-use Rattle.std.proofs.lemmas.Bool.{cond-true, cond-false, false≢true}
+use Rattle.std.proofs.lemmas.Bool.{cases_lt, cond-true, cond-false, false≢true}
 use Rattle.std.proofs.lemmas.Bool.Decides.{nat_tests}
 use Rattle.std.proofs.lemmas.List.{append-nil, append_assoc, length-append, length-map}
 use Rattle.std.proofs.lemmas.Str.{IsCharBoundary-past_char, IsUtf8-past_char, chars-encodes, chars_past_char, length-encode, scalars-chars}
@@ -156,19 +156,34 @@ by_columns P true false wide one two some = absurd (omega (arith, some))
 by_columns P false narrow true one two some = two refl refl
 by_columns P false narrow false one two some = absurd (omega (arith, some))
 
-narrow_from : (c : ℕ) → is_narrow c ≡ true → 0xA0 ≤ c
+narrow_from : (c : ℕ) → is_narrow c ≡ true → 0x20 ≤ c
 unfolding in_ranges
 narrow_from c is = grind (arith, nat_tests)
+
+narrow_above : (c : ℕ) → is_narrow c ≡ true → 0x7F ≤ c → 0xA0 ≤ c
+unfolding in_ranges
+narrow_above c is above = grind (arith, nat_tests)
 
 pub columns_alone : (c n : ℕ) → 0xA0 ≤ c → (of_kind false c (kind c)).0 ≡ n → char_columns c ≡ n
 unfolding char_width alone
 columns_alone c n from is = grind (arith, nat_tests)
 
+columns_ascii : (c : ℕ) → 0x20 ≤ c → c < 0x7F → char_columns c ≡ 1
+unfolding char_width
+columns_ascii c from below = grind (arith, nat_tests)
+
+narrow-columns : (c : ℕ) → is_narrow c ≡ true → char_columns c ≡ 1
+narrow-columns c is =
+    elim (cases_lt c 0x7F) [
+      | inl below ↦ columns_ascii c (narrow_from c is) below
+      | inr above ↦ columns_alone c 1 (narrow_above c is above) (one_column (kind c) c (narrow-one c is))
+    ]
+
 -- its number tells its columns
 pub letter-columns : (c : ℕ) → 0 < letter_columns c → char_columns c ≡ letter_columns c
 letter-columns c some =
     by_columns (λ n. char_columns c ≡ n) (nat_lt c 0x3000) (is_narrow c) (is_wide c)
-    (λ early is. columns_alone c 1 (narrow_from c is) (one_column (kind c) c (narrow-one c is)))
+    (λ early is. narrow-columns c is)
     (λ late is. columns_alone c 2 (grind (arith, nat_tests)) (two_columns (kind c) c (wide-two c is))) some
 
 -- no rule that joins characters applies to it

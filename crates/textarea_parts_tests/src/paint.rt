@@ -34,7 +34,7 @@ type Case = (Drawing, &'static str);
 
 const UNTOUCHED: &str = " | | | |\n | | | |\n | | | |\n";
 
-static CASES: [Case; 60] = [
+static CASES: [Case; 65] = [
     (Row(("a犬b", ""), Left, 0, 2), " |a| | | | |\n"),
     (Row(("a犬b", ""), Left, 0, 5), " |a|犬||b| |\n"),
     (Row(("a犬b", ""), Left, 1, 4), " |犬||b| | |\n"),
@@ -62,6 +62,27 @@ static CASES: [Case; 60] = [
     (Row(("犬語日犬", ""), Left, 3, 4), " | |日|| | |\n"),
     (Row(("é犬я", "한a"), Left, 0, 5), " |é|犬||я| |\n"),
     (Row(("éд", ""), Right, 0, 5), " | | | |é|д|\n"),
+    // Letters of ASCII after another one: as many as letters end after, one less, and one more.
+    (
+        Row(("é0123456789abcdeя", ""), Left, 12, 5),
+        " |b|c|d|e|я|\n",
+    ),
+    (
+        Row(("é0123456789abcdefя", ""), Left, 13, 5),
+        " |c|d|e|f|я|\n",
+    ),
+    (
+        Row(("é0123456789abcdefgя", ""), Left, 14, 5),
+        " |d|e|f|g|я|\n",
+    ),
+    (
+        Row(("é0123456789abcdef\u{301}я", ""), Left, 13, 5),
+        " |c|d|e|f\u{301}|я|\n",
+    ),
+    (
+        Row(("caféte\u{301}", ""), Left, 1, 5),
+        " |a|f|é|t|e\u{301}|\n",
+    ),
     // An accent joins the letter before it, also after other letters, but not over the end of a span.
     (
         Row(("éàu\u{301}ü", ""), Left, 0, 5),
@@ -123,7 +144,7 @@ static CASES: [Case; 60] = [
     // Halves of flags are counted from the left, and from the start of a span.
     (Row(("🇩🇪🇫x", ""), Left, 0, 5), " |🇩🇪||🇫|x| |\n"),
     (Row(("🇩🇪🇫🇷", ""), Left, 0, 5), " |🇩🇪||🇫🇷|| |\n"),
-    (Row(("🇩", "🇪🇫"), Left, 0, 5), " |🇩|🇪🇫||| |\n"),
+    (Row(("🇩", "🇪🇫"), Left, 0, 5), " |🇩|🇪🇫|| | |\n"),
     // A jamo joins the syllable before it.
     (Row(("한가\u{11A8}", ""), Left, 0, 5), " |한||가\u{11A8}|| |\n"),
     (Row(("a", "\u{301}b"), Left, 0, 5), " |a|b| | | |\n"),
@@ -247,7 +268,11 @@ fn rows_and_blocks(rt: HostRuntime) -> Result<(), Fail> {
 
 /// The first and the last character of each range whose columns are found without a table, and of
 /// marks, and those beside them.
-static EDGES: [char; 118] = [
+static EDGES: [char; 122] = [
+    '\u{1F}',
+    '\u{20}',
+    '\u{7E}',
+    '\u{7F}',
     '\u{9F}',
     '\u{A0}',
     '\u{AC}',

@@ -6,11 +6,14 @@ ghost use Rattle.textarea_paint.specs.Prelude.{begins_apart, in_ranges};
 ghost use Rattle.textarea_paint.specs.Units.{BeginsWithHalf, BeginsWithJoined, BeginsWithPicture, BeginsWithSized, BeginsWithUnit, IsAfterUnits, IsTail, IsUnitFront, early_marks, is_mark, is_modifier, late_marks, narrow_pictures, picture_columns, wide_pictures};
 
 use super::columns::columns_of_char;
-use super::letters::letters_within;
+use super::letters::{letter_columns, letters_within};
 use super::simple::{Front, begins_apart, is_flag_half, is_simple, is_within, split_before};
 
 /// The greatest number of marks and of joined pictures of a unit. A cluster of more is no unit.
 pub(super) const MOST_JOINED: usize = 16;
+
+/// No character below this one joins a character before it.
+const FIRST_JOINED: char = '\u{300}';
 
 const JOINER: char = '\u{200D}';
 
@@ -80,11 +83,15 @@ fn after_unit<'a>(text: &'a str) -> Option<(usize, &'a str)>
     let mut characters = text.chars();
     let first = characters.next()?;
     let rest = characters.as_str();
-    if is_simple(first) {
-        Some(after_joined(first, rest))
-    } else if is_flag_half(first) {
+    if is_flag_half(first) {
         let after = after_half(rest)?;
-        Some((2, after))
+        return Some((2, after));
+    }
+    let columns = letter_columns(first);
+    if 0 < columns {
+        Some(after_joined(first, columns, rest))
+    } else if is_simple(first) {
+        Some(after_joined(first, columns_of_char(first), rest))
     } else {
         None
     }
@@ -103,12 +110,13 @@ fn after_half<'a>(text: &'a str) -> Option<&'a str>
     }
 }
 
-/// Returns the columns of a character with what joins it at the start of a text, and the text after
-/// that.
-fn after_joined<'a>(first: char, text: &'a str) -> (usize, &'a str)
+/// Returns the columns of a character of this many columns with what joins it at the start of a text,
+/// and the text after that.
+fn after_joined<'a>(first: char, columns: usize, text: &'a str) -> (usize, &'a str)
+    requires { columns ≡ char_columns first }
     ensures { IsTail first (char_columns first) text.now result.1.now result.0 }
 {
-    let mut columns = columns_of_char(first);
+    let mut columns = columns;
     let mut rest = text;
     let mut count = 0;
     'joined: while count < MOST_JOINED {
@@ -132,7 +140,9 @@ fn next_joined<'a>(first: char, text: &'a str) -> Option<(usize, &'a str)>
     let mut characters = text.chars();
     let c = characters.next()?;
     let after = characters.as_str();
-    if is_mark(c) {
+    if c < FIRST_JOINED {
+        None
+    } else if is_mark(c) {
         Some((0, after))
     } else if is_modifier(c) {
         Some((2, after))

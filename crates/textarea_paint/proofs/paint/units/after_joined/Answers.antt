@@ -9,8 +9,8 @@ pub joined-init : goal.joined-init
 joined-init c = record {
   rest_text = search rules;
   few = omega arith;
-  bound = omega (arith, c.columns_of_char-columns.ensures, char_columns-le c.args.first, (len_utf8_bounds c.args.first).1);
-  tail = λ end total t. subst (λ n. IsTail c.args.first n c.args.text.now end total) c.columns_of_char-columns.ensures t;
+  bound = omega (arith, c.requires, char_columns-le c.args.first, (len_utf8_bounds c.args.first).1);
+  tail = λ end total t. subst (λ n. IsTail c.args.first n c.args.text.now end total) c.requires t;
 }
 
 pub joined-preserved : goal.joined-preserved
