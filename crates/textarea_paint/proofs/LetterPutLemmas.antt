@@ -65,7 +65,7 @@ letters-width style columns (c ∷ letters) all scalars =
       letters-width style columns letters all.1 (tail-scalars c letters scalars),
     )
 
-whole : (columns width : ℕ) → width ≡ columns → true ≡ eqb columns width
+pub whole : (columns width : ℕ) → width ≡ columns → true ≡ eqb columns width
 whole columns width same = grind (arith, nat_tests)
 
 -- letters are put as the row of them

@@ -1,5 +1,5 @@
 //! Grapheme clusters in the cells of a row, from left to right.
-ghost use Rattle.std.specs.Prelude.{◌≡◌, ◌+◌, ◌<◌, ◌≤◌, ℕ, length, chars, [], ◌∷◌, All, IfOk, IsOk, OnOk, OnErr};
+ghost use Rattle.std.specs.Prelude.{◌≡◌, ◌+◌, ◌<◌, ◌≤◌, ℕ, length, chars, [], ◌∷◌, ◌&&◌, nat_le, nat_lt, All, IfOk, IsOk, OnOk, OnErr};
 ghost use Rattle.textarea_paint.specs.Letters.{AreLetters};
 ghost use Rattle.textarea_paint.specs.LineClusters.{FitsKind};
 ghost use Rattle.textarea_paint.specs.Units.{AreUnits};
@@ -10,6 +10,7 @@ use super::clusters::{ClusterRun, RunKind, StyledCluster};
 use super::letters::split_letter;
 use super::row::visible_end;
 use std::alloc::AllocError;
+use textarea_screen::screen::cell::INLINE_BYTES;
 use textarea_screen::screen::{Buffer, Position, Style};
 
 /// Cells of one row of a screen: `width` cells from column `x` on.
@@ -105,7 +106,7 @@ fn draw_units(
     'units: while !rest.is_empty() {
         let text = &rest[..bytes];
         let unit = StyledCluster { text, style };
-        pen = draw_cluster(buffer, cells, pen, unit, columns)?;
+        pen = draw_unit(buffer, cells, pen, unit, columns)?;
         rest = &rest[bytes..];
     }
     Ok(pen)
@@ -199,6 +200,45 @@ fn is_room_at(buffer: &Buffer, cells: RowCells, pen: Pen, columns: usize) -> boo
     };
     let room = usize::from(end.saturating_sub(pen.x));
     pen.hidden == 0 && columns <= room && buffer.area().contains(start)
+}
+
+/// Draws a cluster as `draw_cluster` does, faster if it is whole in the cells and in the buffer.
+#[inline(always)]
+fn draw_unit(
+    buffer: &mut Buffer,
+    cells: RowCells,
+    pen: Pen,
+    cluster: StyledCluster,
+    columns: usize,
+) -> Result<Pen, AllocError>
+    requires edge { cells.x + cells.width ≤ 65535 }
+    requires columns { columns ≡ columns_of cluster.text.now }
+    requires within { IsColumnWithin cells pen.x }
+    ensures moved { (left column : ℕ) → IsPenAt cells left column pen
+        → IfOk result (IsPenAt cells left (column + columns_of cluster.entry.text.now)) }
+    ensures drawn { (left column : ℕ) → IsPenAt cells left column pen
+        → OnOk result (Changes buffer.old buffer.new
+        (row_change cells left (placed_at column (styled_cluster cluster.entry) ∷ []))) }
+    ensures within { IfOk result (λ moved. IsColumnWithin cells moved.x) }
+    ensures inline { length cluster.entry.text.now ≤ INLINE_BYTES → IsOk result }
+    ensures err { OnErr result (KeepsOutside (is_in_cells cells) buffer.old buffer.new) }
+{
+    if is_room_at(buffer, cells, pen, columns) && is_inline(cluster.text, columns) {
+        let width = columns as u16;
+        buffer.put_text(pen.x, cells.y, width, cluster.text, cluster.style);
+        return Ok(Pen {
+            hidden: 0,
+            x: pen.x + width,
+        });
+    }
+    draw_cluster(buffer, cells, pen, cluster, columns)
+}
+
+/// Returns whether a text of this many columns is put into cells without allocation, and takes some.
+fn is_inline(text: &str, columns: usize) -> bool
+    ensures { result ≡ (nat_lt 0 columns && nat_le (length text.now) INLINE_BYTES) }
+{
+    0 < columns && text.len() <= INLINE_BYTES
 }
 
 /// Draws characters of printable ASCII at the pen, one in each cell, and moves the pen after them,

@@ -109,6 +109,7 @@ pub(super) fn split_letter<'a>(text: &'a str) -> (&'a str, &'a str)
 }
 
 /// Returns the columns of a letter, or 0 for another character.
+#[inline(always)]
 pub(super) fn letter_columns(c: char) -> usize
     ensures { result ≡ letter_columns c }
 {

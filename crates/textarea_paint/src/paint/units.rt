@@ -12,8 +12,8 @@ use super::simple::{Front, begins_apart, is_flag_half, is_simple, is_within, spl
 /// The greatest number of marks and of joined pictures of a unit. A cluster of more is no unit.
 pub(super) const MOST_JOINED: usize = 16;
 
-/// No character below this one joins a character before it.
-const FIRST_JOINED: char = '\u{300}';
+/// No character joins a character before it whose first byte is below this one.
+const FIRST_JOINED: u8 = 0xCC;
 
 const JOINER: char = '\u{200D}';
 
@@ -137,12 +137,14 @@ fn next_joined<'a>(first: char, text: &'a str) -> Option<(usize, &'a str)>
         BeginsWithJoined first joined.0 text.now joined.1.now) }
     ensures bound { IfSome result (λ joined. joined.0 ≤ 2) }
 {
+    let bytes = text.as_bytes();
+    if bytes.is_empty() || bytes[0] < FIRST_JOINED {
+        return None;
+    }
     let mut characters = text.chars();
     let c = characters.next()?;
     let after = characters.as_str();
-    if c < FIRST_JOINED {
-        None
-    } else if is_mark(c) {
+    if is_mark(c) {
         Some((0, after))
     } else if is_modifier(c) {
         Some((2, after))
@@ -209,7 +211,9 @@ fn is_modifier(c: char) -> bool
     is_within(c, '\u{1F3FB}', '\u{1F3FF}')
 }
 
-/// Returns whether a joiner joins the character with a picture after it.
+/// Returns whether a joiner joins the character with a picture after it. It isn't inlined, so that
+/// it is computed only after a joiner.
+#[inline(never)]
 fn is_picture(c: char) -> bool
     ensures { result ≡ nat_lt 0 (picture_columns c) }
 {

@@ -34,8 +34,8 @@ first columns bytes rest unit utf8 some units is =
     subst (λ (t : List ℕ). IsFirstUnit columns bytes rest t (drop bytes rest)) (sym (is ∙ ap (λ n. take n rest) same))
     (first-unit columns bytes rest utf8 (some_left (length rest) some) units)
 
-pub draw_cluster-requires-clause-columns : goal.draw_cluster-requires-clause-columns
-draw_cluster-requires-clause-columns c = (first _ _ _ _ c.units.invariant.text c.units-test.ensures c.units.invariant.units c.range-text.ensures.value).width
+pub draw_unit-requires-clause-columns : goal.draw_unit-requires-clause-columns
+draw_unit-requires-clause-columns c = (first _ _ _ _ c.units.invariant.text c.units-test.ensures c.units.invariant.units c.range-text.ensures.value).width
 
 pub range_from-rest-requires : goal.range_from-rest-requires
 range_from-rest-requires c = λ some. (first _ _ _ _ c.units.invariant.text c.units-test.ensures c.units.invariant.units c.range-text.ensures.value).boundary
