@@ -2,7 +2,7 @@
 //! grapheme cluster before another one, and is found without a table.
 ghost use Rattle.std.specs.Prelude.{◌≡◌, ◌≤◌, ◌<◌, true, chars, nat_lt, IfSome};
 ghost use Rattle.textarea_paint.specs.Columns.{char_columns};
-ghost use Rattle.textarea_paint.specs.Prelude.{begins_apart, in_ranges};
+ghost use Rattle.textarea_paint.specs.Prelude.{begins_apart, in_ranges, is_simple};
 ghost use Rattle.textarea_paint.specs.Units.{BeginsWithHalf, BeginsWithJoined, BeginsWithPicture, BeginsWithSized, BeginsWithUnit, IsAfterUnits, IsTail, IsUnitFront, early_marks, is_mark, is_modifier, late_marks, narrow_pictures, picture_columns, wide_pictures};
 
 use super::columns::columns_of_char;
@@ -77,6 +77,7 @@ fn after_sized<'a>(text: &'a str, columns: usize, bytes: usize) -> Option<&'a st
 
 /// Returns the columns of the unit with which a text begins, if it begins with one, and the text
 /// after it.
+#[inline(always)]
 fn after_unit<'a>(text: &'a str) -> Option<(usize, &'a str)>
     ensures { IfSome result (λ unit. BeginsWithUnit unit.0 text.now unit.1.now) }
 {
@@ -87,11 +88,21 @@ fn after_unit<'a>(text: &'a str) -> Option<(usize, &'a str)>
         let after = after_half(rest)?;
         return Some((2, after));
     }
-    let columns = letter_columns(first);
+    let columns = simple_columns(first)?;
+    Some(after_joined(first, columns, rest))
+}
+
+/// Returns the columns of a simple character, or `None` for another one.
+#[inline(always)]
+fn simple_columns(c: char) -> Option<usize>
+    ensures simple { IfSome result (λ columns. is_simple c ≡ true) }
+    ensures columns { IfSome result (λ columns. columns ≡ char_columns c) }
+{
+    let columns = letter_columns(c);
     if 0 < columns {
-        Some(after_joined(first, columns, rest))
-    } else if is_simple(first) {
-        Some(after_joined(first, columns_of_char(first), rest))
+        Some(columns)
+    } else if is_simple(c) {
+        Some(columns_of_char(c))
     } else {
         None
     }
@@ -112,6 +123,7 @@ fn after_half<'a>(text: &'a str) -> Option<&'a str>
 
 /// Returns the columns of a character of this many columns with what joins it at the start of a text,
 /// and the text after that.
+#[inline(always)]
 fn after_joined<'a>(first: char, columns: usize, text: &'a str) -> (usize, &'a str)
     requires { columns ≡ char_columns first }
     ensures { IsTail first (char_columns first) text.now result.1.now result.0 }
@@ -132,6 +144,7 @@ fn after_joined<'a>(first: char, columns: usize, text: &'a str) -> (usize, &'a s
 
 /// Returns the columns of what joins a character at the start of a text, if something does, and the
 /// text after it. A picture is joined by a joiner with another picture.
+#[inline(always)]
 fn next_joined<'a>(first: char, text: &'a str) -> Option<(usize, &'a str)>
     ensures joined { IfSome result (λ joined.
         BeginsWithJoined first joined.0 text.now joined.1.now) }
