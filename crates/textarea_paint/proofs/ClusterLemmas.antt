@@ -4,6 +4,7 @@ use Rattle.std.specs.List.{All, flat_map}
 use Rattle.std.proofs.lemmas.List.{append_assoc, length-map}
 use Rattle.std.proofs.lemmas.List.Elements.{All-cons, All-head, All-nil, All-tail}
 use Rattle.std.specs.Slice.Iter.{iter_rest}
+use Rattle.std.specs.Str.{IsUtf8}
 use Rattle.unicode_segmentation.specs.Grapheme.{graphemes}
 use Rattle.textarea_screen.specs.Style.{patched}
 use Rattle.textarea_screen.specs.Text.{text_bytes, content_view, span_view}
@@ -12,14 +13,16 @@ use Rattle.textarea_screen.specs.declared.screen.style.Style.{Style}
 use Rattle.textarea_screen.specs.declared.screen.text.Span.{Span}
 use Rattle.textarea_screen.specs.declared.screen.text.SpanText.{SpanText}
 use Rattle.textarea_screen.specs.declared.screen.text.SpanText.TheVariants.{Borrowed, Owned}
-use Rattle.textarea_paint.specs.Clusters.{AreInline, Cluster, content_bytes, in_style, letter_clusters, plain_clusters, span_clusters}
+use Rattle.textarea_paint.specs.Clusters.{AreInline, Cluster, content_bytes, in_style, letter_clusters, plain_clusters, span_clusters, text_clusters}
 use Rattle.textarea_paint.specs.DrawnText.{spans_clusters}
 use Rattle.textarea_paint.specs.Letters.{AreLetters, letter_texts}
 use Rattle.textarea_paint.specs.LineClusters.{FitsKind, IsClusterRun, clusters_left, kind_clusters, rest_clusters, run_clusters}
 use Rattle.textarea_paint.specs.Plain.{IsPrintable, singles}
+use Rattle.textarea_paint.specs.Units.{IsUnitFront}
 use Rattle.textarea_paint.specs.declared.paint.clusters.ClusterRun.{ClusterRun}
 use Rattle.textarea_paint.specs.declared.paint.clusters.LineClusters.{LineClusters}
-use Rattle.textarea_paint.specs.declared.paint.clusters.RunKind.TheVariants.{Letters, Plain}
+use Rattle.textarea_paint.specs.declared.paint.clusters.RunKind.TheVariants.{Letters, Plain, Units}
+use Rattle.textarea_paint.proofs.UnitLemmas.{front-most, front-one, front-some, front-units}
 
 content_bytes-displayed : (content : SpanText) → content_bytes (content_view content) ≡ text_bytes content
 content_bytes-displayed (Borrowed text) = refl
@@ -82,6 +85,17 @@ letters_run most run is letters some few one =
       some = omega (arith, count, some);
       bound = omega (arith, count, few);
       single = λ single. are ∙ ap (map (in_style run.style)) (one (omega (arith, count, single)));
+    }
+
+pub units_run : {text after : List ℕ} {bytes : ℕ} (most : ℕ) (run : ClusterRun) → IsUtf8 text → run.kind ≡ Units bytes → IsUnitFront most run.columns bytes text run.text.now after → IsClusterRun most run
+units_run {bytes = bytes} most run utf8 is f =
+    let are : run_clusters run ≡ text_clusters run.style run.text.now = ap (λ kind. kind_clusters kind run.style run.text.now) is in
+    let count : length (run_clusters run) ≡ length (graphemes true run.text.now) = ap length are ∙ length-map (graphemes true run.text.now) (in_style run.style) in
+    record {
+      fits = subst (λ kind. FitsKind kind run.columns run.text.now) (sym is) (front-units utf8 f);
+      some = omega (arith, count, front-some utf8 f);
+      bound = omega (arith, count, front-most utf8 f);
+      single = λ single. are ∙ ap (map (in_style run.style)) (front-one utf8 f (omega (arith, count, single)));
     }
 
 -- the one cluster of a run of at most one

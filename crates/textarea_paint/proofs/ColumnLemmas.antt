@@ -14,7 +14,7 @@ use Rattle.textarea_paint.specs.Columns.{char_columns, columns_of}
 use Rattle.textarea_paint.specs.Plain.{IsPrintable}
 
 -- a character of one byte takes at most one column, and any other at most three
-char_columns-le : (c : ℕ) → char_columns c ≤ 2 * len_utf8 c
+pub char_columns-le : (c : ℕ) → char_columns c ≤ 2 * len_utf8 c
 unfolding char_width
 char_columns-le c = grind (arith, nat_tests, width_or_zero-le false c)
 

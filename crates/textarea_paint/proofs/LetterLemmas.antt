@@ -1,7 +1,7 @@
 -- Letters: a run of them is split into its characters, and each takes the columns that its number tells.
 use Rattle.std.proofs.Common.{◌≡◌, ◌⊎◌, ℕ, suc, ◌+◌, ◌-◌, ◌<◌, ◌≤◌, Bool, true, false, cond, not, ◌||◌, nat_lt, List, [], ◌∷◌, ◌++◌, length, map, take, drop, Option, None, Some, IfSome, inl, inr}
 use Rattle.std.proofs.Common.{refl, sym, ap, ap₂, subst, ◌∙◌, arith}
-use Rattle.std.proofs.lemmas.Bool.{cond-true, cond-false, false≢true}
+use Rattle.std.proofs.lemmas.Bool.{cases_lt, cond-true, cond-false, false≢true}
 use Rattle.std.proofs.lemmas.Bool.Decides.{nat_tests}
 use Rattle.std.proofs.lemmas.List.{append-nil, append_assoc, length-append, length-map}
 use Rattle.std.proofs.lemmas.Str.{IsCharBoundary-past_char, IsUtf8-past_char, chars-encodes, chars_past_char, length-encode, scalars-chars}
@@ -35,7 +35,7 @@ is_one Ambiguous = true
 is_one Alef = true
 is_one _ = false
 
-is_two : Kind → Bool
+unfoldable pub is_two : Kind → Bool
 is_two Wide = true
 is_two Emoji = true
 is_two _ = false
@@ -47,7 +47,7 @@ one_column Ambiguous c is = refl
 one_column Alef c is = refl
 one_column _ c is = absurd (false≢true is)
 
-two_columns : (k : Kind) (c : ℕ) → is_two k ≡ true → (of_kind false c k).0 ≡ 2
+pub two_columns : (k : Kind) (c : ℕ) → is_two k ≡ true → (of_kind false c k).0 ≡ 2
 unfolding is_two
 two_columns Wide c is = refl
 two_columns Emoji c is = refl
@@ -56,10 +56,10 @@ two_columns _ c is = absurd (false≢true is)
 if_narrow : Bool → Kind → Bool
 if_narrow letter k = not letter || is_one k
 
-if_wide : Bool → Kind → Bool
+unfoldable pub if_wide : Bool → Kind → Bool
 if_wide letter k = not letter || is_two k
 
-if_letter : Bool → Bool → Bool
+unfoldable pub if_letter : Bool → Bool → Bool
 if_letter letter simple = not letter || simple
 
 european_letters-stepped : Stepped (in_ranges european_letters)
@@ -112,11 +112,11 @@ other_wide_letters-simple c = Stepped-everywhere _ (zip_stepped if_letter (in_ra
 
 -- ---- a letter
 
-then_holds : (letter holds : Bool) → (not letter || holds) ≡ true → letter ≡ true → holds ≡ true
+pub then_holds : (letter holds : Bool) → (not letter || holds) ≡ true → letter ≡ true → holds ≡ true
 then_holds true holds fits is = fits
 then_holds false holds fits is = absurd (false≢true is)
 
-either : (P : Type 0) (a b : Bool) → (a ≡ true → P) → (b ≡ true → P) → (a || b) ≡ true → P
+pub either : (P : Type 0) (a b : Bool) → (a ≡ true → P) → (b ≡ true → P) → (a || b) ≡ true → P
 either P true b left right is = left refl
 either P false b left right is = right is
 
@@ -156,19 +156,34 @@ by_columns P true false wide one two some = absurd (omega (arith, some))
 by_columns P false narrow true one two some = two refl refl
 by_columns P false narrow false one two some = absurd (omega (arith, some))
 
-narrow_from : (c : ℕ) → is_narrow c ≡ true → 0xA0 ≤ c
+narrow_from : (c : ℕ) → is_narrow c ≡ true → 0x20 ≤ c
 unfolding in_ranges
 narrow_from c is = grind (arith, nat_tests)
 
-columns_alone : (c n : ℕ) → 0xA0 ≤ c → (of_kind false c (kind c)).0 ≡ n → char_columns c ≡ n
+narrow_above : (c : ℕ) → is_narrow c ≡ true → 0x7F ≤ c → 0xA0 ≤ c
+unfolding in_ranges
+narrow_above c is above = grind (arith, nat_tests)
+
+pub columns_alone : (c n : ℕ) → 0xA0 ≤ c → (of_kind false c (kind c)).0 ≡ n → char_columns c ≡ n
 unfolding char_width alone
 columns_alone c n from is = grind (arith, nat_tests)
+
+columns_ascii : (c : ℕ) → 0x20 ≤ c → c < 0x7F → char_columns c ≡ 1
+unfolding char_width
+columns_ascii c from below = grind (arith, nat_tests)
+
+narrow-columns : (c : ℕ) → is_narrow c ≡ true → char_columns c ≡ 1
+narrow-columns c is =
+    elim (cases_lt c 0x7F) [
+      | inl below ↦ columns_ascii c (narrow_from c is) below
+      | inr above ↦ columns_alone c 1 (narrow_above c is above) (one_column (kind c) c (narrow-one c is))
+    ]
 
 -- its number tells its columns
 pub letter-columns : (c : ℕ) → 0 < letter_columns c → char_columns c ≡ letter_columns c
 letter-columns c some =
     by_columns (λ n. char_columns c ≡ n) (nat_lt c 0x3000) (is_narrow c) (is_wide c)
-    (λ early is. columns_alone c 1 (narrow_from c is) (one_column (kind c) c (narrow-one c is)))
+    (λ early is. narrow-columns c is)
     (λ late is. columns_alone c 2 (grind (arith, nat_tests)) (two_columns (kind c) c (wide-two c is))) some
 
 -- no rule that joins characters applies to it
@@ -258,7 +273,7 @@ graphemes-letters columns (c ∷ letters) text after all utf8 is apart =
     next (d ∷ letters) rest all valid same =
         (begins-with columns rest (encode_utf8_all letters ++ after) d valid (same ∙ append_assoc (encode_utf8 d) (encode_utf8_all letters) after) all.0).apart
 
-chars-letters : (letters text after : List ℕ) → IsUtf8 text → text ≡ encode_utf8_all letters ++ after → chars text ≡ letters ++ chars after
+pub chars-letters : (letters text after : List ℕ) → IsUtf8 text → text ≡ encode_utf8_all letters ++ after → chars text ≡ letters ++ chars after
 chars-letters [] text after utf8 is = ap chars is
 chars-letters (c ∷ letters) text after utf8 is =
     let rest = encode_utf8_all letters ++ after in

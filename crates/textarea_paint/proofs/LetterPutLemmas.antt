@@ -1,5 +1,5 @@
 -- Letters that are put into the cells of a row at once.
-use Rattle.std.proofs.Common.{◌≡◌, ◌⊎◌, inl, inr, ℕ, suc, ◌+◌, ◌-◌, ◌*◌, ◌<◌, ◌≤◌, ◌==◌, min, nat_le, Bool, true, eqb, List, [], ◌∷◌, ◌++◌, length, map, refl, sym, ap, subst, ◌∙◌, arith}
+use Rattle.std.proofs.Common.{◌≡◌, ◌⊎◌, inl, inr, ℕ, ◌+◌, ◌-◌, ◌*◌, ◌<◌, ◌≤◌, ◌==◌, min, nat_le, true, eqb, List, [], ◌∷◌, ◌++◌, length, map, refl, sym, ap, subst, ◌∙◌, arith}
 use Rattle.std.proofs.Math.Nat.{suc-mul}
 use Rattle.std.proofs.lemmas.Bool.{and_parts, eqb-true}
 use Rattle.std.proofs.lemmas.Bool.Decides.{nat_tests}
@@ -19,13 +19,12 @@ use Rattle.textarea_screen.proofs.ChangeLemmas.{Changes-as}
 use Rattle.textarea_paint.specs.Cells.{IsColumnWithin, IsPenAt, is_room_at, place_from, placed_at, row_change}
 use Rattle.textarea_paint.specs.Clusters.{Cluster, in_style, letter_clusters}
 use Rattle.textarea_paint.specs.Columns.{columns_of}
-use Rattle.textarea_paint.specs.LetterWalk.{IsLetterWalk}
+use Rattle.textarea_paint.specs.Walk.{IsWalk}
 use Rattle.textarea_paint.specs.Letters.{AreLetters, IsLetter}
 use Rattle.textarea_paint.specs.Row.{clusters_width}
 use Rattle.textarea_paint.specs.declared.paint.cells.Pen.{Pen}
 use Rattle.textarea_paint.specs.declared.paint.cells.RowCells.{RowCells}
 use Rattle.textarea_paint.proofs.CellLemmas.{row_change-cons, row_change-nil, row_change-one}
-use Rattle.textarea_paint.proofs.ClusterLemmas.{AreInline-after}
 use Rattle.textarea_paint.proofs.LetterLemmas.{columns-letter, front_scalars}
 use Rattle.textarea_paint.proofs.SimpleLemmas.{first-scalar}
 
@@ -66,7 +65,7 @@ letters-width style columns (c ∷ letters) all scalars =
       letters-width style columns letters all.1 (tail-scalars c letters scalars),
     )
 
-whole : (columns width : ℕ) → width ≡ columns → true ≡ eqb columns width
+pub whole : (columns width : ℕ) → width ≡ columns → true ≡ eqb columns width
 whole columns width same = grind (arith, nat_tests)
 
 -- letters are put as the row of them
@@ -138,7 +137,7 @@ fewer-put {from} {row} {to} {columns} {column} {style} {text} {rest} utf8 some r
 -- letters that are put are a walk
 pub walk-put : {cells : RowCells} {style : Style} {columns column to : ℕ} {pen : Pen} {text rest : List ℕ} {old new : Buffer} → IsUtf8 text → AreLetters columns text →
     pen.hidden ≡ 0 → IsColumnWithin cells pen.x → to ≤ cells.x + cells.width → ArePut pen.x cells.y to columns style text rest column old new →
-    IsLetterWalk cells style columns pen (pen_at column) text rest old new
+    IsWalk cells pen (pen_at column) (letter_clusters style text) (letter_clusters style rest) old new
 walk-put {cells} {style} {columns} {column} {to} {pen} {text} {rest} {old} {new} utf8 letters hidden within room put =
     let none : pen ≡ pen_at pen.x = ap (λ n. record { hidden = n; x = pen.x }) hidden in
     let split = split_all (IsLetter columns) put.front (chars rest) (subst (AllByRecursion (IsLetter columns)) put.parts letters) in
@@ -158,6 +157,8 @@ walk-put {cells} {style} {columns} {column} {to} {pen} {text} {rest} {old} {new}
           Changes-as (row_change cells left (place_from start front)) put.written
           (letters-row cells style columns left start pen.x put.front split.0 scalars (subst (IsPenAt cells left start) none at) inside);
       within = (omega (arith, put.end, within.0), omega (arith, put.fits, room));
-      letters = split.1;
-      short = AreInline-after front (letter_clusters style rest) parts;
     }
+
+-- the others are letters too
+pub letters-put : {from row to columns column : ℕ} {style : Style} {text rest : List ℕ} {old new : Buffer} → AreLetters columns text → ArePut from row to columns style text rest column old new → AreLetters columns rest
+letters-put {columns = columns} {rest = rest} letters put = (split_all (IsLetter columns) put.front (chars rest) (subst (AllByRecursion (IsLetter columns)) put.parts letters)).1

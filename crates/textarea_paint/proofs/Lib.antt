@@ -6,7 +6,6 @@ pub mod RowAreaLemmas
 mod FrontLemmas
 mod LetterLemmas
 mod LetterPutLemmas
-mod LetterRowLemmas
 pub mod PartLemmas
 pub mod PlainLemmas
 mod PlainRowLemmas
@@ -14,4 +13,6 @@ mod PrintableLemmas
 mod RowLemmas
 pub mod SeamLemmas
 mod SimpleLemmas
+mod UnitLemmas
+mod WalkLemmas
 pub mod WidthLemmas

@@ -55,7 +55,7 @@ pub single-zwj : (v : GraphemeClusterBreak) → is_single v ≡ true → is_zwj 
 single-zwj Zwj is = absurd (false≢true is)
 single-zwj _ is = refl
 
-no_pair : (v w : GraphemeClusterBreak) → is_single v ≡ true → is_single w ≡ true → break_by_pair true v w ≡ None
+pub no_pair : (v w : GraphemeClusterBreak) → is_single v ≡ true → is_single w ≡ true → break_by_pair true v w ≡ None
 no_pair Other Other is is' = refl
 no_pair Other Lv is is' = refl
 no_pair Other Lvt is is' = refl

@@ -1,18 +1,17 @@
 -- A simple character, and a flag, is a grapheme cluster by itself before another one, and the text
 -- after it is split as if it were a text of its own.
-use Rattle.std.proofs.Common.{◌≡◌, ◌⊎◌, ℕ, ◌+◌, ◌-◌, ◌<◌, ◌≤◌, Bool, true, false, cond, not, ◌&&◌, ◌||◌, ◌==◌, nat_lt, List, [], ◌∷◌, ◌++◌, length, map, sum_by, take, drop, Option, None, Some, IfSome}
-use Rattle.std.proofs.Common.{refl, sym, ap, ap₂, subst, ◌∙◌, arith, inl, inr}
+use Rattle.std.proofs.Common.{◌≡◌, ◌⊎◌, ℕ, ◌+◌, ◌-◌, ◌<◌, ◌≤◌, Bool, true, false, cond, not, ◌&&◌, ◌||◌, ◌==◌, nat_lt, List, [], ◌∷◌, ◌++◌, map, sum_by}
+use Rattle.std.proofs.Common.{refl, sym, ap, subst, ◌∙◌, arith, inl, inr}
 use Rattle.std.proofs.lemmas.Bool.{and_parts, cond-true, cond-false, eqb-true, false≢true}
 use Rattle.std.proofs.lemmas.Bool.Decides.{nat_tests}
-use Rattle.std.proofs.lemmas.List.{append-nil, append_assoc, length-append}
+use Rattle.std.proofs.lemmas.List.{append-nil}
 use Rattle.std.proofs.lemmas.List.Sums.{sum_by-cons}
-use Rattle.std.proofs.lemmas.Str.{IsUtf8-past_char, chars_past_char, scalars-chars}
-use Rattle.std.proofs.Math.Seq.{drop-append_seam, take-append_seam}
+use Rattle.std.proofs.lemmas.Str.{chars_past_char, scalars-chars}
 use Rattle.std.specs.Char.{is_control}
 use Rattle.std.specs.Prelude.{encode_utf8, encode_utf8_all}
 use Rattle.std.specs.Str.{all_scalars, chars, IsUtf8}
 use Rattle.textarea_paint.proofs.PlainLemmas.{BeginsAnew, IsPlain, breaks_between, cut-anew, is_single, no_pair-regional, regional-no_pair, single-extend, single-regional, single-zwj}
-use Rattle.textarea_paint.proofs.WidthLemmas.{columns_of-encoded, regional-visible, single-visible}
+use Rattle.textarea_paint.proofs.WidthLemmas.{columns_of-encoded, single-visible}
 use Rattle.textarea_paint.specs.Columns.{char_columns, columns_of}
 use Rattle.textarea_paint.specs.Simple.{begins_apart, early_ranges, is_flag_half, is_simple, late_ranges}
 use Rattle.ucd_breaks.specs.GraphemeClusterBreak.{grapheme_cluster_break, grapheme_cluster_break_number}
@@ -79,7 +78,7 @@ unfolding either_way
 second_holds true fits either is = either
 second_holds false fits either is = absurd (false≢true is)
 
-simple-apart : (c : ℕ) → is_simple c ≡ true → IsApart c
+pub simple-apart : (c : ℕ) → is_simple c ≡ true → IsApart c
 simple-apart c is = apart-from c (by (nat_lt c 0x3000) is)
   where
     by : (early : Bool) → cond early (in_ranges early_ranges c) (in_ranges late_ranges c) ≡ true → has_no_joiner (grapheme_cluster_break c) (indic_conjunct_break c) ≡ true
@@ -119,13 +118,13 @@ flag-half c is = half-from c (each_half is_half all_halves c is)
 
 -- ---- a character at which a text can begin anew
 
-record BeginsCluster (d : ℕ) : Type 0 where
-  value : (is_single (grapheme_cluster_break d) ≡ true) ⊎ (grapheme_cluster_break d ≡ RegionalIndicator)
-  no_conjunct : indic_conjunct_break d ≡ conjunct.None
-  no_extend : is_extend (grapheme_cluster_break d) ≡ false
-  no_joiner : is_zwj (grapheme_cluster_break d) ≡ false
+pub record BeginsCluster (d : ℕ) : Type 0 where
+  pub value : (is_single (grapheme_cluster_break d) ≡ true) ⊎ (grapheme_cluster_break d ≡ RegionalIndicator)
+  pub no_conjunct : indic_conjunct_break d ≡ conjunct.None
+  pub no_extend : is_extend (grapheme_cluster_break d) ≡ false
+  pub no_joiner : is_zwj (grapheme_cluster_break d) ≡ false
 
-begins : (d : ℕ) → (is_simple d || is_flag_half d) ≡ true → BeginsCluster d
+pub begins : (d : ℕ) → (is_simple d || is_flag_half d) ≡ true → BeginsCluster d
 begins d is = by (is_simple d) refl is
   where
     by : (simple : Bool) → is_simple d ≡ simple → (simple || is_flag_half d) ≡ true → BeginsCluster d
@@ -136,7 +135,7 @@ begins d is = by (is_simple d) refl is
         let half = flag-half d is in
         record { value = inr half.regional; no_conjunct = half.no_conjunct; no_extend = ap is_extend half.regional; no_joiner = ap is_zwj half.regional }
 
-anew : (d : ℕ) → BeginsCluster d → (before : List ℕ) → ends_in_half_flag before ≡ false → BeginsAnew d before
+pub anew : (d : ℕ) → BeginsCluster d → (before : List ℕ) → ends_in_half_flag before ≡ false → BeginsAnew d before
 unfolding ends_in_linker ends_in_half_flag
 anew d begins before whole = record {
   linker = rw begins.no_conjunct refl;
@@ -151,7 +150,7 @@ module _ (c : ℕ) (apart : IsApart c) where
   not_half : is_regional (grapheme_cluster_break c) ≡ false
   not_half = single-regional (grapheme_cluster_break c) apart.single
 
-  whole-simple : ends_in_half_flag (c ∷ []) ≡ false
+  pub whole-simple : ends_in_half_flag (c ∷ []) ≡ false
   unfolding ends_in_half_flag
   whole-simple = rw not_half refl
 
@@ -208,7 +207,7 @@ module _ (b c : ℕ) (first : IsHalf b) (second : IsHalf c) where
       ∙ ap (λ (pieces : List (List ℕ)). (c ∷ []) ∷ pieces) (cut-anew d (c ∷ b ∷ []) (anew d next (c ∷ b ∷ []) whole-flag) cs)
 
   -- a flag
-  cut-flag : (cs : List ℕ) → begins_apart cs ≡ true → cut (is_grapheme_break true) [] (b ∷ c ∷ cs) [] ≡ (b ∷ c ∷ []) ∷ cut (is_grapheme_break true) [] cs []
+  pub cut-flag : (cs : List ℕ) → begins_apart cs ≡ true → cut (is_grapheme_break true) [] (b ∷ c ∷ cs) [] ≡ (b ∷ c ∷ []) ∷ cut (is_grapheme_break true) [] cs []
   unfolding cut
   cut-flag cs is = cond-false _ _ _ (joins-flag (cs ++ [])) ∙ ap (prepend (b ∷ [])) (cut-second cs is)
 
@@ -220,22 +219,10 @@ graphemes-simple text after c utf8 is simple apart =
     ∙ ap (map encode_utf8_all) (cut-simple c (simple-apart c simple) (chars after) apart)
     ∙ ap (λ (bytes : List ℕ). bytes ∷ map encode_utf8_all (cut (is_grapheme_break true) [] (chars after) [])) (append-nil (encode_utf8 c))
 
-graphemes-flag : (text rest after : List ℕ) (b c : ℕ) → IsUtf8 text → text ≡ encode_utf8 b ++ rest → rest ≡ encode_utf8 c ++ after →
-    is_flag_half b ≡ true → is_flag_half c ≡ true → begins_apart (chars after) ≡ true → graphemes true text ≡ (encode_utf8 b ++ encode_utf8 c) ∷ graphemes true after
-unfolding segments
-graphemes-flag text rest after b c utf8 is rest_is first second apart =
-    ap (λ cs. map encode_utf8_all (cut (is_grapheme_break true) [] cs []))
-    (chars_past_char text rest b utf8 is ∙ ap (λ cs. b ∷ cs) (chars_past_char rest after c (IsUtf8-past_char text rest b utf8 is) rest_is))
-    ∙ ap (map encode_utf8_all) (cut-flag b c (flag-half b first) (flag-half c second) (chars after) apart)
-    ∙ ap (λ (bytes : List ℕ). (encode_utf8 b ++ bytes) ∷ map encode_utf8_all (cut (is_grapheme_break true) [] (chars after) [])) (append-nil (encode_utf8 c))
-
 -- ---- the columns of the first cluster
 
 pub first-scalar : (c : ℕ) (cs : List ℕ) → all_scalars (c ∷ cs) ≡ true → all_scalars (c ∷ []) ≡ true
 first-scalar c cs scalar = grind (arith, nat_tests)
-
-first-scalars : (b c : ℕ) (cs : List ℕ) → all_scalars (b ∷ c ∷ cs) ≡ true → all_scalars (b ∷ c ∷ []) ≡ true
-first-scalars b c cs scalar = grind (arith, nat_tests)
 
 -- its columns, without a text
 pub columns-scalar : (c : ℕ) → all_scalars (c ∷ []) ≡ true → is_simple c ≡ true → columns_of (encode_utf8 c) ≡ char_columns c
@@ -252,60 +239,5 @@ all_one : all_below (λ k. char_columns (0x1F1E6 + k) == 1) 26 ≡ true
 unfolding tables unicode_width
 all_one = refl
 
-half-column : (c : ℕ) → is_flag_half c ≡ true → char_columns c ≡ 1
+pub half-column : (c : ℕ) → is_flag_half c ≡ true → char_columns c ≡ 1
 half-column c is = eqb-true _ _ (each_half (λ x. char_columns x == 1) all_one c is)
-
-columns-flag : (text rest after : List ℕ) (b c : ℕ) → IsUtf8 text → text ≡ encode_utf8 b ++ rest → rest ≡ encode_utf8 c ++ after →
-    is_flag_half b ≡ true → is_flag_half c ≡ true → columns_of (encode_utf8 b ++ encode_utf8 c) ≡ 2
-columns-flag text rest after b c utf8 is rest_is first second =
-    let all = chars_past_char text rest b utf8 is ∙ ap (λ cs. b ∷ cs) (chars_past_char rest after c (IsUtf8-past_char text rest b utf8 is) rest_is) in
-    let scalar = first-scalars b c (chars after) (ap all_scalars (sym all) ∙ scalars-chars text utf8) in
-    ap (λ (t : List ℕ). columns_of (encode_utf8 b ++ t)) (sym (append-nil (encode_utf8 c))) ∙ columns_of-encoded (b ∷ c ∷ []) scalar
-    ∙ cond-false (is_control b || (is_control c || false)) 0 (sum_by char_columns (b ∷ c ∷ []))
-    (ap₂ (λ (x : Bool) (y : Bool). x || (y || false)) (regional-visible b (flag-half b first).regional) (regional-visible c (flag-half c second).regional))
-    ∙ omega (arith, sum_by-cons char_columns b (c ∷ []), sum_by-cons char_columns c [], half-column b first, half-column c second)
-
--- ---- a text that is split after its first cluster
-
--- the first cluster of a text, its columns, and the text after it
-pub record IsFirst (text first after : List ℕ) (columns : ℕ) : Type 0 where
-  pub bytes : text ≡ first ++ after
-  pub clusters : graphemes true text ≡ first ∷ graphemes true after
-  pub width : columns_of first ≡ columns
-
-pub first-simple : (text after : List ℕ) (c columns : ℕ) → IsUtf8 text → text ≡ encode_utf8 c ++ after → is_simple c ≡ true → begins_apart (chars after) ≡ true → columns ≡ char_columns c →
-    IsFirst text (encode_utf8 c) after columns
-first-simple text after c columns utf8 is simple apart counted = record {
-  bytes = is;
-  clusters = graphemes-simple text after c utf8 is simple apart;
-  width = columns-simple text after c utf8 is simple ∙ sym counted;
-}
-
-pub first-flag : (text rest after : List ℕ) (b c : ℕ) → IsUtf8 text → text ≡ encode_utf8 b ++ rest → rest ≡ encode_utf8 c ++ after →
-    is_flag_half b ≡ true → is_flag_half c ≡ true → begins_apart (chars after) ≡ true → IsFirst text (encode_utf8 b ++ encode_utf8 c) after 2
-first-flag text rest after b c utf8 is rest_is first second apart = record {
-  bytes = is ∙ ap (λ (t : List ℕ). encode_utf8 b ++ t) rest_is ∙ sym (append_assoc (encode_utf8 b) (encode_utf8 c) after);
-  clusters = graphemes-flag text rest after b c utf8 is rest_is first second apart;
-  width = columns-flag text rest after b c utf8 is rest_is first second;
-}
-
-module _ {text first after : List ℕ} {columns : ℕ} (h : IsFirst text first after columns) where
-  same_length : length text - length after ≡ length first
-  same_length = omega (arith, ap length h.bytes, length-append first after)
-
-  taken : take (length text - length after) text ≡ first
-  taken = ap₂ (λ (n : ℕ) (t : List ℕ). take n t) same_length h.bytes ∙ take-append_seam first after
-
-  dropped : drop (length text - length after) text ≡ after
-  dropped = ap₂ (λ (n : ℕ) (t : List ℕ). drop n t) same_length h.bytes ∙ drop-append_seam first after
-
-  pub split-clusters : {X : Type 0} (r : Option X) (front back : X → List ℕ) → IfSome r (λ x. front x ≡ take (length text - length after) text) →
-      IfSome r (λ x. back x ≡ drop (length text - length after) text) → IfSome r (λ x. graphemes true text ≡ front x ∷ graphemes true (back x))
-  split-clusters None front back is_front is_back = tt
-  split-clusters (Some x) front back is_front is_back =
-      h.clusters ∙ ap₂ (λ (f : List ℕ) (b : List ℕ). f ∷ graphemes true b) (sym (is_front ∙ taken)) (sym (is_back ∙ dropped))
-
-  pub split-columns : {X : Type 0} (r : Option X) (front : X → List ℕ) (counted : X → ℕ) → IfSome r (λ x. front x ≡ take (length text - length after) text) →
-      IfSome r (λ x. counted x ≡ columns) → IfSome r (λ x. counted x ≡ columns_of (front x))
-  split-columns None front counted is_front is_counted = tt
-  split-columns (Some x) front counted is_front is_counted = is_counted ∙ sym h.width ∙ ap columns_of (sym (is_front ∙ taken))

@@ -12,7 +12,7 @@ use Rattle.std.proofs.Math.Bool.{or-false}
 use Rattle.std.proofs.lemmas.Str.{chars-encodes, scalars-chars}
 use Rattle.ucd_breaks.specs.GraphemeClusterBreak.{grapheme_cluster_break}
 use Rattle.ucd_breaks.specs.declared.GraphemeClusterBreak.{GraphemeClusterBreak}
-use Rattle.ucd_breaks.specs.declared.GraphemeClusterBreak.TheVariants.{Control, Cr, Lf, RegionalIndicator}
+use Rattle.ucd_breaks.specs.declared.GraphemeClusterBreak.TheVariants.{Control, Cr, Extend, Lf, RegionalIndicator}
 use Rattle.ucd_breaks.proofs.GraphemeClusterBreakLemmas.{grapheme_cluster_break_stepped}
 use Rattle.ucd_table.proofs.Computing.{tables}
 use Rattle.ucd_table.proofs.RangedFacts.{points_ok, Stepped-at_points}
@@ -72,6 +72,10 @@ single-visible c single = visible-if c (is_control c) refl (single-visible-if (g
 pub regional-visible : (c : ℕ) → grapheme_cluster_break c ≡ RegionalIndicator → is_control c ≡ false
 unfolding is_apart
 regional-visible c regional = visible-if c (is_control c) refl (ap is_apart regional)
+
+pub extend-visible : (c : ℕ) → grapheme_cluster_break c ≡ Extend → is_control c ≡ false
+unfolding is_apart
+extend-visible c extend = visible-if c (is_control c) refl (ap is_apart extend)
 
 no_column : (c : ℕ) → is_control c ≡ true → char_columns c ≡ 0
 unfolding char_width

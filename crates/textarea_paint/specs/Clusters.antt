@@ -26,6 +26,10 @@ plain_clusters style text = map (in_style style) (singles text)
 abbrev pub letter_clusters : Style → List ℕ → List Cluster
 letter_clusters style text = map (in_style style) (letter_texts text)
 
+-- the extended grapheme clusters (UAX #29) of a text
+abbrev pub text_clusters : Style → List ℕ → List Cluster
+text_clusters style text = map (in_style style) (graphemes true text)
+
 -- the bytes of a text, borrowed or owned
 abbrev pub content_bytes : ContentView → List ℕ
 content_bytes (BorrowedBytes bytes) = bytes

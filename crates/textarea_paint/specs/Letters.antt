@@ -7,9 +7,9 @@ use Rattle.textarea_paint.specs.Simple.{begins_apart}
 
 -- ---- the characters
 
--- of one column: letters and signs of Latin, Greek and Cyrillic
+-- of one column: letters and signs of ASCII, Latin, Greek and Cyrillic
 abbrev pub european_letters : List Range
-european_letters = (0xA0, 0xAC) ∷ (0xAE, 0x2FF) ∷ (0x370, 0x482) ∷ (0x48A, 0x52F) ∷ []
+european_letters = (0x20, 0x7E) ∷ (0xA0, 0xAC) ∷ (0xAE, 0x2FF) ∷ (0x370, 0x482) ∷ (0x48A, 0x52F) ∷ []
 
 -- letters of Hebrew, Arabic and Georgian, more of Latin and Greek, punctuation, signs, and the lines
 -- of tables. There are others of one column.

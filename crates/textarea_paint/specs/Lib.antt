@@ -3,11 +3,12 @@ pub mod Cells
 pub mod Clusters
 pub mod Columns
 pub mod DrawnText
-pub mod LetterWalk
 pub mod Letters
 pub mod LineClusters
 pub mod Part
 pub mod Plain
 pub mod Row
 pub mod Simple
+pub mod Units
+pub mod Walk
 pub mod Prelude

@@ -6,14 +6,15 @@ use Rattle.unicode_segmentation.specs.Grapheme.{graphemes}
 use Rattle.unicode_segmentation.specs.Iter.{graphemes_left}
 use Rattle.textarea_screen.specs.Text.{span_view}
 use Rattle.textarea_screen.specs.declared.screen.style.Style.{Style}
-use Rattle.textarea_paint.specs.Clusters.{Cluster, in_style, letter_clusters, plain_clusters, span_clusters}
+use Rattle.textarea_paint.specs.Clusters.{Cluster, in_style, letter_clusters, plain_clusters, span_clusters, text_clusters}
 use Rattle.textarea_paint.specs.Columns.{columns_of}
 use Rattle.textarea_paint.specs.Letters.{AreLetters}
 use Rattle.textarea_paint.specs.Plain.{IsPrintable}
+use Rattle.textarea_paint.specs.Units.{AreUnits}
 use Rattle.textarea_paint.specs.declared.paint.clusters.ClusterRun.{ClusterRun}
 use Rattle.textarea_paint.specs.declared.paint.clusters.LineClusters.{LineClusters}
 use Rattle.textarea_paint.specs.declared.paint.clusters.RunKind.{RunKind}
-use Rattle.textarea_paint.specs.declared.paint.clusters.RunKind.TheVariants.{One, Plain, Letters}
+use Rattle.textarea_paint.specs.declared.paint.clusters.RunKind.TheVariants.{One, Plain, Letters, Units}
 use Rattle.textarea_paint.specs.declared.paint.clusters.SpanRest.{SpanRest}
 use Rattle.textarea_paint.specs.declared.paint.clusters.SpanRest.TheVariants.{Clusters, Text}
 use Rattle.textarea_paint.specs.declared.paint.clusters.StyledCluster.{StyledCluster}
@@ -26,6 +27,7 @@ abbrev pub kind_clusters : RunKind → Style → List ℕ → List Cluster
 kind_clusters One style text = in_style style text ∷ []
 kind_clusters Plain style text = plain_clusters style text
 kind_clusters Letters style text = letter_clusters style text
+kind_clusters (Units bytes) style text = text_clusters style text
 
 -- the clusters of a run
 abbrev pub run_clusters : ClusterRun → List Cluster
@@ -36,6 +38,7 @@ abbrev pub FitsKind : RunKind → ℕ → List ℕ → Type 0
 FitsKind One columns text = columns ≡ columns_of text
 FitsKind Plain columns text = All IsPrintable text
 FitsKind Letters columns text = AreLetters columns text
+FitsKind (Units bytes) columns text = AreUnits columns bytes text
 
 -- what is known of a run: it has a cluster and at most `most`, its text is of its kind, and that is
 -- the whole cluster if there is one

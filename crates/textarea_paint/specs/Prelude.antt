@@ -11,7 +11,7 @@ pub use Rattle.textarea_screen.specs.Text.{line_view}
 pub use Rattle.textarea_screen.specs.declared.screen.cell.TheConstants.{INLINE_BYTES}
 pub use Rattle.textarea_paint.specs.Block.{block_cell, corner_changes, in_area, in_turn, side_changes, title_change}
 pub use Rattle.textarea_paint.specs.Cells.{IsAnyPen, IsColumnWithin, IsPenAt, is_in_cells, is_room_at, place_from, placed_at, row_change}
-pub use Rattle.textarea_paint.specs.Clusters.{AreInline, Cluster, in_style, letter_clusters, plain_clusters, row_clusters}
+pub use Rattle.textarea_paint.specs.Clusters.{AreInline, Cluster, in_style, letter_clusters, plain_clusters, row_clusters, text_clusters}
 pub use Rattle.textarea_paint.specs.Columns.{columns_of}
 pub use Rattle.textarea_paint.specs.LineClusters.{run_clusters, styled_cluster}
 pub use Rattle.textarea_paint.specs.Plain.{IsPrintable, begins_plain, is_printable, plain_count, singles}

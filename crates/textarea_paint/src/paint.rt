@@ -8,6 +8,7 @@ mod letters;
 pub mod row;
 mod simple;
 pub mod text;
+mod units;
 
 pub use block::draw_block;
 pub use row::{RowArea, draw_row, row_start};

@@ -34,7 +34,7 @@ type Case = (Drawing, &'static str);
 
 const UNTOUCHED: &str = " | | | |\n | | | |\n | | | |\n";
 
-static CASES: [Case; 49] = [
+static CASES: [Case; 65] = [
     (Row(("a犬b", ""), Left, 0, 2), " |a| | | | |\n"),
     (Row(("a犬b", ""), Left, 0, 5), " |a|犬||b| |\n"),
     (Row(("a犬b", ""), Left, 1, 4), " |犬||b| | |\n"),
@@ -62,6 +62,27 @@ static CASES: [Case; 49] = [
     (Row(("犬語日犬", ""), Left, 3, 4), " | |日|| | |\n"),
     (Row(("é犬я", "한a"), Left, 0, 5), " |é|犬||я| |\n"),
     (Row(("éд", ""), Right, 0, 5), " | | | |é|д|\n"),
+    // Letters of ASCII after another one: as many as letters end after, one less, and one more.
+    (
+        Row(("é0123456789abcdeя", ""), Left, 12, 5),
+        " |b|c|d|e|я|\n",
+    ),
+    (
+        Row(("é0123456789abcdefя", ""), Left, 13, 5),
+        " |c|d|e|f|я|\n",
+    ),
+    (
+        Row(("é0123456789abcdefgя", ""), Left, 14, 5),
+        " |d|e|f|g|я|\n",
+    ),
+    (
+        Row(("é0123456789abcdef\u{301}я", ""), Left, 13, 5),
+        " |c|d|e|f\u{301}|я|\n",
+    ),
+    (
+        Row(("caféte\u{301}", ""), Left, 1, 5),
+        " |a|f|é|t|e\u{301}|\n",
+    ),
     // An accent joins the letter before it, also after other letters, but not over the end of a span.
     (
         Row(("éàu\u{301}ü", ""), Left, 0, 5),
@@ -72,6 +93,58 @@ static CASES: [Case; 49] = [
         " |é|д\u{301}|犬\u{301}|| |\n",
     ),
     (Row(("éд", "\u{301}я"), Left, 0, 5), " |é|д|я| | |\n"),
+    // Marks join a letter, also several, but nothing at the start of a line.
+    (
+        Row(("e\u{301}a\u{301}b", ""), Left, 0, 5),
+        " |e\u{301}|a\u{301}|b| | |\n",
+    ),
+    (
+        Row(("\u{301}e\u{301}\u{302}x", ""), Left, 0, 5),
+        " |e\u{301}\u{302}|x| | | |\n",
+    ),
+    // As many marks as a unit has at most, and one more.
+    (
+        Row(
+            (
+                "e\u{301}\u{301}\u{301}\u{301}\u{301}\u{301}\u{301}\u{301}\u{301}\u{301}\u{301}\u{301}\u{301}\u{301}\u{301}\u{301}x",
+                "",
+            ),
+            Left,
+            0,
+            5,
+        ),
+        " |e\u{301}\u{301}\u{301}\u{301}\u{301}\u{301}\u{301}\u{301}\u{301}\u{301}\u{301}\u{301}\u{301}\u{301}\u{301}\u{301}|x| | | |\n",
+    ),
+    (
+        Row(
+            (
+                "e\u{301}\u{301}\u{301}\u{301}\u{301}\u{301}\u{301}\u{301}\u{301}\u{301}\u{301}\u{301}\u{301}\u{301}\u{301}\u{301}\u{301}x",
+                "",
+            ),
+            Left,
+            0,
+            5,
+        ),
+        " |e\u{301}\u{301}\u{301}\u{301}\u{301}\u{301}\u{301}\u{301}\u{301}\u{301}\u{301}\u{301}\u{301}\u{301}\u{301}\u{301}\u{301}|x| | | |\n",
+    ),
+    // A colour of skin takes columns, a selector takes none, and a joiner joins only pictures.
+    (Row(("👍🏽x", ""), Left, 0, 5), " |👍🏽||||x|\n"),
+    (
+        Row(("🏳\u{fe0f}\u{200d}🌈x", ""), Left, 0, 5),
+        " |🏳\u{fe0f}\u{200d}🌈|||x| |\n",
+    ),
+    (
+        Row(("a\u{200d}🚀b", ""), Left, 0, 5),
+        " |a\u{200d}|🚀||b| |\n",
+    ),
+    (
+        Row(("👩\u{200d}\u{301}🚀x", ""), Left, 0, 5),
+        " |👩\u{200d}\u{301}||🚀||x|\n",
+    ),
+    // Halves of flags are counted from the left, and from the start of a span.
+    (Row(("🇩🇪🇫x", ""), Left, 0, 5), " |🇩🇪||🇫|x| |\n"),
+    (Row(("🇩🇪🇫🇷", ""), Left, 0, 5), " |🇩🇪||🇫🇷|| |\n"),
+    (Row(("🇩", "🇪🇫"), Left, 0, 5), " |🇩|🇪🇫|| | |\n"),
     // A jamo joins the syllable before it.
     (Row(("한가\u{11A8}", ""), Left, 0, 5), " |한||가\u{11A8}|| |\n"),
     (Row(("a", "\u{301}b"), Left, 0, 5), " |a|b| | | |\n"),
@@ -193,9 +266,13 @@ fn rows_and_blocks(rt: HostRuntime) -> Result<(), Fail> {
     check_each(&rt, &CASES, is_drawn)
 }
 
-/// The first and the last character of each range whose columns are found without a table, and those
-/// beside them.
-static EDGES: [char; 98] = [
+/// The first and the last character of each range whose columns are found without a table, and of
+/// marks, and those beside them.
+static EDGES: [char; 122] = [
+    '\u{1F}',
+    '\u{20}',
+    '\u{7E}',
+    '\u{7F}',
     '\u{9F}',
     '\u{A0}',
     '\u{AC}',
@@ -211,6 +288,10 @@ static EDGES: [char; 98] = [
     '\u{48A}',
     '\u{52F}',
     '\u{530}',
+    '\u{590}',
+    '\u{591}',
+    '\u{5BD}',
+    '\u{5BE}',
     '\u{5CF}',
     '\u{5D0}',
     '\u{5DB}',
@@ -222,6 +303,8 @@ static EDGES: [char; 98] = [
     '\u{620}',
     '\u{64A}',
     '\u{64B}',
+    '\u{65F}',
+    '\u{660}',
     '\u{670}',
     '\u{671}',
     '\u{6D3}',
@@ -230,6 +313,8 @@ static EDGES: [char; 98] = [
     '\u{10D0}',
     '\u{10FF}',
     '\u{1100}',
+    '\u{1DBF}',
+    '\u{1DC0}',
     '\u{1DFF}',
     '\u{1E00}',
     '\u{1FFF}',
@@ -242,6 +327,10 @@ static EDGES: [char; 98] = [
     '\u{2070}',
     '\u{20C0}',
     '\u{20C1}',
+    '\u{20CF}',
+    '\u{20D0}',
+    '\u{20F0}',
+    '\u{20F1}',
     '\u{20FF}',
     '\u{2100}',
     '\u{2319}',
@@ -258,6 +347,8 @@ static EDGES: [char; 98] = [
     '\u{3041}',
     '\u{3096}',
     '\u{3097}',
+    '\u{3098}',
+    '\u{3099}',
     '\u{309A}',
     '\u{309B}',
     '\u{30FF}',
@@ -274,10 +365,16 @@ static EDGES: [char; 98] = [
     '\u{AC00}',
     '\u{D7A3}',
     '\u{D7A4}',
+    '\u{FDFF}',
+    '\u{FE00}',
+    '\u{FE0F}',
+    '\u{FE10}',
     '\u{FF00}',
     '\u{FF01}',
     '\u{FF60}',
     '\u{FF61}',
+    '\u{1F3FA}',
+    '\u{1F3FB}',
     '\u{1F3FF}',
     '\u{1F400}',
     '\u{1F43E}',

@@ -1,9 +1,12 @@
 -- Characters that are written into a row one after another.
-use Rattle.std.proofs.Common.{◌≡◌, ◌⊎◌, ℕ, suc, ◌+◌, ◌*◌, ◌<◌, ◌≤◌, true, List, [], ◌∷◌, ◌++◌, length, refl, sym, ap, ◌∙◌, arith}
+use Rattle.std.proofs.Common.{◌≡◌, ◌⊎◌, ℕ, suc, ◌+◌, ◌*◌, ◌<◌, ◌≤◌, true, List, [], ◌∷◌, ◌++◌, length, take, refl, sym, ap, ap₂, subst, ◌-◌, ◌∙◌, arith}
 use Rattle.std.proofs.Math.Nat.{suc-mul}
 use Rattle.std.proofs.lemmas.List.{append_assoc, length-append}
+use Rattle.std.proofs.Math.Seq.{take-append_seam}
+use Rattle.std.proofs.lemmas.Str.{IsCharBoundary-past_char, length-encode}
+use Rattle.std.specs.Char.{len_utf8}
 use Rattle.std.specs.Prelude.{encode_utf8}
-use Rattle.std.specs.Str.{chars}
+use Rattle.std.specs.Str.{chars, IsCharBoundary, IsUtf8}
 use Rattle.textarea_screen.specs.Buffer.{ArePut, Changes, characters_change, wide_change}
 use Rattle.textarea_screen.specs.Cell.{CellView}
 use Rattle.textarea_screen.specs.declared.screen.buffer.Buffer.{Buffer}
@@ -62,3 +65,15 @@ putting-next {from} {row} {to} {columns} {column} {style} {text} {rest} {after} 
 pub put-all : {from row to columns column : ℕ} {style : Style} {text rest : List ℕ} {old now : Buffer} → IsPutting from row to columns style text rest column old now →
     (chars rest ≡ []) ⊎ (to < column + columns) → ArePut from row to columns style text rest column old now
 put-all p all = record { front = p.front; parts = p.parts; end = p.end; fits = p.fits; all = all; written = p.written }
+
+-- ---- the first character of a text
+
+pub first-boundary : (text after : List ℕ) (c : ℕ) → IsUtf8 text → text ≡ encode_utf8 c ++ after → IsCharBoundary text (len_utf8 c)
+first-boundary text after c utf8 is =
+    let same : 0 + len_utf8 c ≡ len_utf8 c = omega arith in
+    subst (λ n. IsCharBoundary text n) same (IsCharBoundary-past_char text after 0 c (omega arith) utf8 is)
+
+pub first-taken : (text after : List ℕ) (c : ℕ) → text ≡ encode_utf8 c ++ after → take (len_utf8 c - 0) text ≡ encode_utf8 c
+first-taken text after c is =
+    let same : len_utf8 c - 0 ≡ length (encode_utf8 c) = omega (arith, length-encode c) in
+    ap₂ (λ (n : ℕ) (t : List ℕ). take n t) same is ∙ take-append_seam (encode_utf8 c) after

@@ -1,14 +1,16 @@
 //! Grapheme clusters in the cells of a row, from left to right.
-ghost use Rattle.std.specs.Prelude.{◌≡◌, ◌+◌, ◌<◌, ◌≤◌, ℕ, length, chars, [], ◌∷◌, All, IfOk, IsOk, OnOk, OnErr};
-ghost use Rattle.textarea_paint.specs.LetterWalk.{IsLetterWalk};
+ghost use Rattle.std.specs.Prelude.{◌≡◌, ◌+◌, ◌<◌, ◌≤◌, ℕ, length, chars, [], ◌∷◌, ◌&&◌, nat_le, nat_lt, All, IfOk, IsOk, OnOk, OnErr};
 ghost use Rattle.textarea_paint.specs.Letters.{AreLetters};
 ghost use Rattle.textarea_paint.specs.LineClusters.{FitsKind};
-ghost use Rattle.textarea_paint.specs.Prelude.{AreInline, letter_clusters, Changes, KeepsOutside, INLINE_BYTES, IsAnyPen, IsPenAt, IsColumnWithin, IsPrintable, row_change, area_of, is_in_cells, is_room_at, place_from, placed_at, clusters_width, columns_of, plain_clusters, run_clusters, styled_cluster};
+ghost use Rattle.textarea_paint.specs.Units.{AreUnits};
+ghost use Rattle.textarea_paint.specs.Walk.{IsWalk};
+ghost use Rattle.textarea_paint.specs.Prelude.{AreInline, letter_clusters, Changes, KeepsOutside, INLINE_BYTES, IsAnyPen, IsPenAt, IsColumnWithin, IsPrintable, row_change, area_of, is_in_cells, is_room_at, place_from, placed_at, clusters_width, columns_of, plain_clusters, run_clusters, styled_cluster, text_clusters};
 
 use super::clusters::{ClusterRun, RunKind, StyledCluster};
 use super::letters::split_letter;
 use super::row::visible_end;
 use std::alloc::AllocError;
+use textarea_screen::screen::cell::INLINE_BYTES;
 use textarea_screen::screen::{Buffer, Position, Style};
 
 /// Cells of one row of a screen: `width` cells from column `x` on.
@@ -63,7 +65,51 @@ pub(crate) fn draw_run(
             };
             draw_letters(buffer, cells, pen, letters, run.columns)
         }
+        RunKind::Units(bytes) => {
+            let units = StyledCluster {
+                text: run.text,
+                style: run.style,
+            };
+            draw_units(buffer, cells, pen, units, run.columns, bytes)
+        }
     }
+}
+
+/// Draws units of this many columns and bytes each at the pen, and moves the pen after them, at most
+/// to the end of the cells.
+fn draw_units(
+    buffer: &mut Buffer,
+    cells: RowCells,
+    pen: Pen,
+    units: StyledCluster,
+    columns: usize,
+    bytes: usize,
+) -> Result<Pen, AllocError>
+    requires edge { cells.x + cells.width ≤ 65535 }
+    requires within { IsColumnWithin cells pen.x }
+    requires units { AreUnits columns bytes units.text.now }
+    requires pen { IsAnyPen cells pen }
+    ensures moved { (left column : ℕ) → IsPenAt cells left column pen
+        → IfOk result (IsPenAt cells left
+        (column + clusters_width (text_clusters units.entry.style units.entry.text.now))) }
+    ensures drawn { (left column : ℕ) → IsPenAt cells left column pen
+        → OnOk result (Changes buffer.old buffer.new (row_change cells left
+        (place_from column (text_clusters units.entry.style units.entry.text.now)))) }
+    ensures within { IfOk result (λ moved. IsColumnWithin cells moved.x) }
+    ensures inline { AreInline (text_clusters units.entry.style units.entry.text.now)
+        → IsOk result }
+    ensures err { OnErr result (KeepsOutside (is_in_cells cells) buffer.old buffer.new) }
+{
+    let style = units.style;
+    let mut pen = pen;
+    let mut rest = units.text;
+    'units: while !rest.is_empty() {
+        let text = &rest[..bytes];
+        let unit = StyledCluster { text, style };
+        pen = draw_unit(buffer, cells, pen, unit, columns)?;
+        rest = &rest[bytes..];
+    }
+    Ok(pen)
 }
 
 /// Draws letters of this many columns each at the pen, and moves the pen after them, at most to the
@@ -116,8 +162,10 @@ fn draw_first_letters<'a>(
     requires within { IsColumnWithin cells pen.x }
     requires letters { AreLetters columns letters.now }
     requires pen { IsAnyPen cells pen }
-    ensures walk { IfOk result (λ after. IsLetterWalk cells style columns pen after.0
-        letters.now after.1.now buffer.old buffer.new) }
+    ensures walk { IfOk result (λ after. IsWalk cells pen after.0
+        (letter_clusters style letters.now) (letter_clusters style after.1.now)
+        buffer.old buffer.new) }
+    ensures letters { IfOk result (λ after. AreLetters columns after.1.now) }
     ensures fewer { IfOk result (λ after.
         length (chars after.1.now) < length (chars letters.now)) }
     ensures inline { AreInline (letter_clusters style letters.now) → IsOk result }
@@ -152,6 +200,45 @@ fn is_room_at(buffer: &Buffer, cells: RowCells, pen: Pen, columns: usize) -> boo
     };
     let room = usize::from(end.saturating_sub(pen.x));
     pen.hidden == 0 && columns <= room && buffer.area().contains(start)
+}
+
+/// Draws a cluster as `draw_cluster` does, faster if it is whole in the cells and in the buffer.
+#[inline(always)]
+fn draw_unit(
+    buffer: &mut Buffer,
+    cells: RowCells,
+    pen: Pen,
+    cluster: StyledCluster,
+    columns: usize,
+) -> Result<Pen, AllocError>
+    requires edge { cells.x + cells.width ≤ 65535 }
+    requires columns { columns ≡ columns_of cluster.text.now }
+    requires within { IsColumnWithin cells pen.x }
+    ensures moved { (left column : ℕ) → IsPenAt cells left column pen
+        → IfOk result (IsPenAt cells left (column + columns_of cluster.entry.text.now)) }
+    ensures drawn { (left column : ℕ) → IsPenAt cells left column pen
+        → OnOk result (Changes buffer.old buffer.new
+        (row_change cells left (placed_at column (styled_cluster cluster.entry) ∷ []))) }
+    ensures within { IfOk result (λ moved. IsColumnWithin cells moved.x) }
+    ensures inline { length cluster.entry.text.now ≤ INLINE_BYTES → IsOk result }
+    ensures err { OnErr result (KeepsOutside (is_in_cells cells) buffer.old buffer.new) }
+{
+    if is_room_at(buffer, cells, pen, columns) && is_inline(cluster.text, columns) {
+        let width = columns as u16;
+        buffer.put_text(pen.x, cells.y, width, cluster.text, cluster.style);
+        return Ok(Pen {
+            hidden: 0,
+            x: pen.x + width,
+        });
+    }
+    draw_cluster(buffer, cells, pen, cluster, columns)
+}
+
+/// Returns whether a text of this many columns is put into cells without allocation, and takes some.
+fn is_inline(text: &str, columns: usize) -> bool
+    ensures { result ≡ (nat_lt 0 columns && nat_le (length text.now) INLINE_BYTES) }
+{
+    0 < columns && text.len() <= INLINE_BYTES
 }
 
 /// Draws characters of printable ASCII at the pen, one in each cell, and moves the pen after them,

@@ -7,7 +7,7 @@ ghost use Rattle.unicode_segmentation.specs.Iter.{graphemes_left};
 
 use super::columns::cluster_columns;
 use super::letters::split_letters;
-use super::simple::{split_flag, split_simple};
+use super::units::split_units;
 use std::slice;
 use textarea_screen::screen::{Line, Span, Style};
 use unicode_segmentation::{Graphemes, UnicodeSegmentation};
@@ -27,6 +27,8 @@ pub(crate) enum RunKind {
     Plain,
     /// Each character is a letter and a cluster.
     Letters,
+    /// Each unit is a cluster, and has this number of bytes.
+    Units(usize),
 }
 
 /// Clusters of a line that follow each other in one style, of the same number of columns each.
@@ -48,7 +50,8 @@ enum SpanRest<'a> {
 }
 
 impl<'a> SpanRest<'a> {
-    /// Returns the next clusters, or `None` at the end: one, or at most `most` plain ones or letters.
+    /// Returns the next clusters, or `None` at the end: one, or at most `most` plain ones,
+    /// letters or units.
     fn next_run(&mut self, most: usize, style: Style) -> Option<ClusterRun<'a>>
         requires { 0 < most }
         ensures steps { MatchOption result
@@ -110,7 +113,8 @@ impl<'a, 'b> LineClusters<'a, 'b> {
         }
     }
 
-    /// Returns the next clusters, or `None` at the end: one, or at most `most` plain ones or letters.
+    /// Returns the next clusters, or `None` at the end: one, or at most `most` plain ones,
+    /// letters or units.
     pub(crate) fn next_run(&mut self, most: usize) -> Option<ClusterRun<'a>>
         requires { 0 < most }
         ensures steps { MatchOption result
@@ -166,8 +170,8 @@ fn next_split<'a>(texts: &mut Graphemes<'a>, style: Style) -> Option<ClusterRun<
     })
 }
 
-/// Splits clusters that are found without a table off the start of a text: one, or at most `most`
-/// plain ones or letters.
+/// Splits clusters that are found without a table off the start of a text: at most `most` plain ones,
+/// letters or units.
 #[tactic(auto, using(crate::proofs::ClusterLemmas::plain_run, crate::proofs::ClusterLemmas::letters_run))]
 fn split_run<'a>(text: &'a str, most: usize, style: Style) -> Option<(ClusterRun<'a>, &'a str)>
     requires { 0 < most }
@@ -184,15 +188,6 @@ fn split_run<'a>(text: &'a str, most: usize, style: Style) -> Option<(ClusterRun
         };
         return Some((run, after));
     }
-    if let Some(flag) = split_flag(text) {
-        let run = ClusterRun {
-            text: flag.text,
-            style,
-            columns: flag.columns,
-            kind: RunKind::One,
-        };
-        return Some((run, flag.after));
-    }
     if let Some(letters) = split_letters(text, most) {
         let run = ClusterRun {
             text: letters.text,
@@ -202,14 +197,14 @@ fn split_run<'a>(text: &'a str, most: usize, style: Style) -> Option<(ClusterRun
         };
         return Some((run, letters.after));
     }
-    let first = split_simple(text)?;
+    let (units, bytes) = split_units(text, most)?;
     let run = ClusterRun {
-        text: first.text,
+        text: units.text,
         style,
-        columns: first.columns,
-        kind: RunKind::One,
+        columns: units.columns,
+        kind: RunKind::Units(bytes),
     };
-    Some((run, first.after))
+    Some((run, units.after))
 }
 
 /// Splits printable ASCII off the start of a text, at most `most` characters. Each of them is a

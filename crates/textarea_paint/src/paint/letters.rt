@@ -1,10 +1,14 @@
 //! Letters: each is a grapheme cluster by itself before another one, and its number tells its
 //! columns, without a table.
-ghost use Rattle.std.specs.Prelude.{◌≡◌, ◌≤◌, ◌<◌, ◌++◌, ◌∷◌, [], true, length, IfSome};
+ghost use Rattle.std.specs.Prelude.{◌≡◌, ◌-◌, ◌≤◌, ◌<◌, ◌==◌, ◌++◌, ◌∷◌, [], true, length, IfSome};
 ghost use Rattle.textarea_paint.specs.Letters.{AreLetters, BeginsWithLetter, IsAfterLetters, IsFirstLetter, letter_columns, letter_texts, european_letters, ideographs, is_narrow, is_wide, other_narrow_letters, other_wide_letters};
 ghost use Rattle.textarea_paint.specs.Prelude.{graphemes, in_ranges};
 
 use super::simple::{Front, begins_apart, is_within, split_before};
+
+/// The number of characters of ASCII that follow each other before letters end: such characters by
+/// themselves are drawn faster.
+const MOST_PLAIN: usize = 16;
 
 /// Splits letters of the same number of columns off the start of a text, at most `most`. Each of
 /// them is a cluster.
@@ -30,10 +34,17 @@ pub(super) fn split_letters<'a>(text: &'a str, most: usize) -> Option<Front<'a>>
 }
 
 /// Returns how many letters of this many columns reach over `most` columns.
-fn letters_within(most: usize, columns: usize) -> usize
-    ensures { result ≤ most }
+pub(super) fn letters_within(most: usize, columns: usize) -> usize
+    ensures bound { result ≤ most }
+    ensures some { 0 < most → 0 < result }
 {
-    if columns == 2 { most - most / 2 } else { most }
+    if columns < 2 {
+        most
+    } else if columns < 4 {
+        most - most / 2
+    } else {
+        most - most / 4 * 3
+    }
 }
 
 /// Returns the text after letters of this many columns, at most `most`, or the same text.
@@ -44,15 +55,28 @@ fn after_letters<'a>(text: &'a str, columns: usize, most: usize) -> &'a str
     let mut last = text;
     let mut rest = text;
     let mut count = 0;
-    'letters: while count < most {
+    let mut plain = 0;
+    'letters: while count < most && plain < MOST_PLAIN {
         let Some(after) = after_letter(rest, columns) else {
             break;
+        };
+        plain = if is_one_longer(rest, after) {
+            plain + 1
+        } else {
+            0
         };
         last = rest;
         rest = after;
         count += 1;
     }
     if begins_apart(rest) { rest } else { last }
+}
+
+/// Returns whether a text has one byte more than the text after it.
+fn is_one_longer(text: &str, after: &str) -> bool
+    ensures { result ≡ (length text.now - length after.now == 1) }
+{
+    text.len().saturating_sub(after.len()) == 1
 }
 
 /// Returns the text after a letter of this many columns, if a text begins with one.
@@ -85,6 +109,7 @@ pub(super) fn split_letter<'a>(text: &'a str) -> (&'a str, &'a str)
 }
 
 /// Returns the columns of a letter, or 0 for another character.
+#[inline(always)]
 pub(super) fn letter_columns(c: char) -> usize
     ensures { result ≡ letter_columns c }
 {
@@ -108,11 +133,12 @@ fn is_narrow(c: char) -> bool
 fn is_european(c: char) -> bool
     ensures { result ≡ in_ranges european_letters c }
 {
+    let ascii = is_within(c, ' ', '~');
     let signs = is_within(c, '\u{A0}', '\u{AC}');
     let latin = is_within(c, '\u{AE}', '\u{2FF}');
     let greek = is_within(c, '\u{370}', '\u{482}');
     let cyrillic = is_within(c, '\u{48A}', '\u{52F}');
-    signs | latin | greek | cyrillic
+    ascii | signs | latin | greek | cyrillic
 }
 
 /// Returns whether the character is in one of the other ranges of letters of one column.

@@ -1,9 +1,8 @@
-//! Grapheme clusters that are found without a table: one simple character, or a flag.
-ghost use Rattle.std.specs.Prelude.{◌≡◌, ◌-◌, ◌≤◌, ◌∷◌, ◌++◌, ◌||◌, true, length, take, drop, IfSome, chars, encode_utf8};
+//! Simple characters and halves of flags: before each of them a cluster begins, after a simple
+//! character or a flag.
+ghost use Rattle.std.specs.Prelude.{◌≡◌, ◌-◌, ◌≤◌, ◌||◌, length, take, drop, IfSome, chars};
 ghost use Rattle.std.specs.Int.{is_in_range};
-ghost use Rattle.textarea_paint.specs.Prelude.{begins_apart, columns_of, early_ranges, graphemes, in_ranges, is_flag_half, is_simple, late_ranges};
-
-use super::columns::columns_of_char;
+ghost use Rattle.textarea_paint.specs.Prelude.{begins_apart, early_ranges, in_ranges, is_flag_half, is_simple, late_ranges};
 
 /// The front of a text, the columns that each of its clusters takes, and the text after it.
 #[derive(Clone, Copy)]
@@ -11,58 +10,6 @@ pub(super) struct Front<'a> {
     pub(super) text: &'a str,
     pub(super) columns: usize,
     pub(super) after: &'a str,
-}
-
-/// Splits the first cluster off a text, if it is a simple character and a simple character, a flag
-/// or the end of the text follows.
-pub(super) fn split_simple<'a>(text: &'a str) -> Option<Front<'a>>
-    ensures clusters { IfSome result (λ first.
-        graphemes true text.now ≡ first.text.now ∷ graphemes true first.after.now) }
-    ensures columns { IfSome result (λ first. first.columns ≡ columns_of first.text.now) }
-{
-    let mut characters = text.chars();
-    let first = characters.next()?;
-    let after = characters.as_str();
-    if is_simple(first) && begins_apart(after) {
-        split_before(text, after, columns_of_char(first))
-    } else {
-        None
-    }
-}
-
-/// Splits the first cluster off a text, if it is a flag and a simple character, a flag or the end of
-/// the text follows.
-pub(super) fn split_flag<'a>(text: &'a str) -> Option<Front<'a>>
-    ensures clusters { IfSome result (λ first.
-        graphemes true text.now ≡ first.text.now ∷ graphemes true first.after.now) }
-    ensures columns { IfSome result (λ first. first.columns ≡ columns_of first.text.now) }
-{
-    let mut characters = text.chars();
-    let first = characters.next()?;
-    if is_flag_half(first) {
-        split_halves(text, first, characters.as_str())
-    } else {
-        None
-    }
-}
-
-/// Splits a flag off a text that begins with half of one, `first`, and goes on with `rest`, if a
-/// simple character, a flag or the end of the text follows it.
-fn split_halves<'a>(text: &'a str, first: char, rest: &str) -> Option<Front<'a>>
-    requires half { is_flag_half first ≡ true }
-    requires text { text.now ≡ encode_utf8 first ++ rest.now }
-    ensures clusters { IfSome result (λ first.
-        graphemes true text.now ≡ first.text.now ∷ graphemes true first.after.now) }
-    ensures columns { IfSome result (λ first. first.columns ≡ columns_of first.text.now) }
-{
-    let mut characters = rest.chars();
-    let second = characters.next()?;
-    let after = characters.as_str();
-    if is_flag_half(second) && begins_apart(after) {
-        split_before(text, after, 2)
-    } else {
-        None
-    }
 }
 
 /// Splits a text before its end, which is as long as `after`. Each cluster of the first part takes
@@ -104,7 +51,7 @@ fn begins_cluster(c: char) -> bool
 
 /// Returns whether no rule that joins characters applies to this one. It is false for some others
 /// of which this is also true.
-fn is_simple(c: char) -> bool
+pub(super) fn is_simple(c: char) -> bool
     ensures { result ≡ is_simple c }
 {
     if c < '\u{3000}' {
@@ -157,7 +104,7 @@ pub(super) fn is_within(c: char, first: char, last: char) -> bool
 }
 
 /// Returns whether the character is a regional indicator, of which two make a flag.
-fn is_flag_half(c: char) -> bool
+pub(super) fn is_flag_half(c: char) -> bool
     ensures { result ≡ is_flag_half c }
 {
     is_within(c, '\u{1F1E6}', '\u{1F1FF}')

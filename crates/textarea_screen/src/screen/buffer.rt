@@ -132,23 +132,26 @@ impl Buffer {
             let Some(c) = characters.next() else {
                 break;
             };
-            self.put_character(column, y, columns, c, style);
+            self.put_text(column, y, columns, &rest[..c.len_utf8()], style);
             column += columns;
             rest = characters.as_str();
         }
         (column, rest)
     }
 
-    /// Puts a character into `columns` cells from column `x` on: itself into the first one, and the
-    /// empty text into the others. Applies a style to these cells.
-    fn put_character(&mut self, x: u16, y: u16, columns: u16, c: char, style: Style)
+    /// Puts a text of at most `INLINE_BYTES` bytes into `columns` cells of the buffer from column `x`
+    /// on: itself into the first one, and the empty text into the others. Applies a style to these
+    /// cells.
+    #[inline(always)]
+    pub fn put_text(&mut self, x: u16, y: u16, columns: u16, text: &str, style: Style)
         requires columns { 0 < columns }
-        requires start { IsTrue (contains self.old.area x y) }
-        requires end { x + columns ≤ self.old.area.x + self.old.area.width }
-        ensures { Changes self.old self.new (wide_change x y (x + columns) (encode_utf8 c) true style) }
+        requires start { IsTrue (contains (area_of self.old) x y) }
+        requires end { x + columns ≤ (area_of self.old).x + (area_of self.old).width }
+        requires inline { length text.now ≤ INLINE_BYTES }
+        ensures { Changes self.old self.new (wide_change x y (x + columns) text.now true style) }
     {
         let place = self.place(x, y);
-        self.cells[place].put_char(c, style);
+        self.cells[place].put_inline(text, style);
         for column in x + 1..x + columns {
             self.cells[place + usize::from(column - x)].fill(true, style);
         }

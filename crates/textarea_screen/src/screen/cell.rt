@@ -1,4 +1,4 @@
-ghost use Rattle.std.specs.Prelude.{◌≡◌, ◌+◌, ◌≤◌, [], ◌∷◌, ◌++◌, length, IsOk, OnOk, OnErr, encode_utf8, if◌then◌else◌};
+ghost use Rattle.std.specs.Prelude.{◌≡◌, ◌+◌, ◌≤◌, [], ◌∷◌, ◌++◌, length, IsOk, OnOk, OnErr, if◌then◌else◌};
 
 use super::color::Color;
 use super::modifier::Modifier;
@@ -67,14 +67,6 @@ impl CellText {
         let mut inline = ArrayString::new();
         inline.push_str(text);
         *self = CellText::Inline(inline);
-    }
-
-    /// Replaces the text by a character, without allocation.
-    fn replace_by_char(&mut self, c: char)
-        ensures { cell_text self.new ≡ encode_utf8 c }
-    {
-        let mut bytes = [0; 4];
-        self.replace_inline(c.encode_utf8(&mut bytes));
     }
 
     /// Replaces the text by the empty one.
@@ -174,14 +166,6 @@ impl Cell {
         ensures { cell_view self.new ≡ with_symbol text.now style (cell_view self.old) }
     {
         self.text.replace_inline(text);
-        self.set_style(style);
-    }
-
-    /// Replaces the text by a character and applies a style, without allocation.
-    pub(super) fn put_char(&mut self, c: char, style: Style)
-        ensures { cell_view self.new ≡ with_symbol (encode_utf8 c) style (cell_view self.old) }
-    {
-        self.text.replace_by_char(c);
         self.set_style(style);
     }
 

@@ -30,3 +30,8 @@ pub returns-in-Letters-clause-inline : goal.returns-in-Letters-clause-inline
 returns-in-Letters-clause-inline c = λ short.
     let run = c.args.run in
     c.draw_letters.ensures.inline (subst (λ kind. AreInline (kind_clusters kind run.style run.text.now)) c.in-Letters.is short)
+
+pub returns-in-Units-clause-inline : goal.returns-in-Units-clause-inline
+returns-in-Units-clause-inline c = λ short.
+    let run = c.args.run in
+    c.draw_units.ensures.inline (subst (λ kind. AreInline (kind_clusters kind run.style run.text.now)) c.in-Units.is short)

@@ -1,22 +1,21 @@
 use Rattle.std.proofs.Common.{◌≡◌, ℕ, ◌+◌, List, true, eqb, refl, ap₂, subst, ◌∙◌, arith}
 use Rattle.std.proofs.lemmas.Bool.Decides.{nat_tests}
-use Rattle.std.specs.Prelude.{encode_utf8}
 use Rattle.textarea_screen.specs.Buffer.{Changes, wide_symbol}
 use Rattle.textarea_screen.specs.Cell.{CellView, cell_view, with_symbol}
 use Rattle.textarea_screen.specs.declared.screen.cell.Cell.{Cell}
 use Rattle.textarea_screen.proofs.BufferLemmas.{Changes-next, change_between, change_between-none, place-right}
 use Rattle.textarea_screen.proofs.ChangeLemmas.{Changes-none}
-use Rattle.textarea_screen.proofs.screen.buffer.Buffer.put_character.Goals as goal
+use Rattle.textarea_screen.proofs.screen.buffer.Buffer.put_text.Goals as goal
 
 pub loop-column-init : goal.loop-column-init
 loop-column-init c =
     let x = c.args.x in
-    let symbols : ℕ → CellView → CellView = λ u. with_symbol (wide_symbol true (eqb u x) (encode_utf8 c.args.c)) c.args.style in
+    let symbols : ℕ → CellView → CellView = λ u. with_symbol (wide_symbol true (eqb u x) c.args.text.now) c.args.style in
     let none = Changes-none c.args.self.now (change_between c.args.y x x symbols) (λ u v cell. change_between-none c.args.y x symbols u v cell) in
     record {
-      written = Changes-next c.args.self.now c.args.self.now _ c.args.y x x c.place-place.result symbols c.index_mut.result.now c.put_char.new.self none
+      written = Changes-next c.args.self.now c.args.self.now _ c.args.y x x c.place-place.result symbols c.index_mut.result.now c.put_inline.new.self none
           c.requires.start (omega arith) (omega (arith, c.requires.columns, c.requires.end)) (omega (arith, c.place-place.ensures.value)) refl refl
-          (c.put_char.ensures ∙ ap₂ (λ (t : List ℕ) (cell : Cell). with_symbol t c.args.style (cell_view cell)) (grind (arith, nat_tests)) c.index_mut.ensures.value);
+          (c.put_inline.ensures ∙ ap₂ (λ (t : List ℕ) (cell : Cell). with_symbol t c.args.style (cell_view cell)) (grind (arith, nat_tests)) c.index_mut.ensures.value);
       begun = omega arith;
       after = omega (arith, c.requires.columns);
     }
@@ -32,7 +31,7 @@ loop-column-preserved c =
     let x = c.args.x in
     let column = c.loop-column.column in
     let i = c.loop-column.invariant in
-    let symbols : ℕ → CellView → CellView = λ u. with_symbol (wide_symbol true (eqb u x) (encode_utf8 c.args.c)) c.args.style in
+    let symbols : ℕ → CellView → CellView = λ u. with_symbol (wide_symbol true (eqb u x) c.args.text.now) c.args.style in
     record {
       written = Changes-next c.args.self.now c.loop-column.self _ c.args.y x column (c.place-place.result + c.from.result) symbols
           c.index_mut-in-loop-column.result.now c.fill.new.self i.written c.requires.start (omega (arith, i.begun)) (omega (arith, c.requires.end)) (omega (arith, c.place-place.ensures.value)) refl refl
@@ -44,6 +43,6 @@ loop-column-preserved c =
 pub returns : goal.returns
 returns c =
     let x = c.args.x in
-    let symbols : ℕ → CellView → CellView = λ u. with_symbol (wide_symbol true (eqb u x) (encode_utf8 c.args.c)) c.args.style in
+    let symbols : ℕ → CellView → CellView = λ u. with_symbol (wide_symbol true (eqb u x) c.args.text.now) c.args.style in
     let all : c.loop-column.column ≡ x + c.args.columns = omega (arith, c.loop-column.invariant.after) in
     subst (λ n. Changes c.args.self.now c.loop-column.self (change_between c.args.y x n symbols)) all c.loop-column.invariant.written

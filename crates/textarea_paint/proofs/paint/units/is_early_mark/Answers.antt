@@ -1,0 +1,10 @@
+use Rattle.std.proofs.Common.{refl}
+use Rattle.std.proofs.Math.Bool.{or_assoc, or-false}
+use Rattle.ucd_table.specs.Rows.{in_ranges}
+use Rattle.textarea_paint.proofs.paint.units.is_early_mark.Goals as goal
+
+pub returns : goal.returns
+unfolding in_ranges
+returns c =
+    rw (c.is_within-accents.ensures, c.is_within-cyrillic.ensures, c.is_within-hebrew.ensures, c.is_within-arabic.ensures)
+    (simp (or_assoc, or-false) refl)
