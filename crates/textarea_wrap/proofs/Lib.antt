@@ -1,5 +1,6 @@
 mod Prelude
 pub mod BlankLemmas
+pub mod CloserLemmas
 pub mod ColumnLemmas
 pub mod DigitLemmas
 pub mod FewestLemmas
@@ -7,11 +8,15 @@ pub mod FewestRowLemmas
 pub mod FewestWordLemmas
 pub mod FittingLemmas
 pub mod GlyphLemmas
+pub mod KeptGlyphLemmas
+pub mod KeptRowLemmas
+pub mod KeptWordLemmas
 pub mod MarkLemmas
 pub mod OneWrappingLemmas
 pub mod OneRowLemmas
 pub mod RestLemmas
 pub mod RowLemmas
+pub mod PartedLemmas
 pub mod VisibleLemmas
 pub mod WordLemmas
 mod TallyWalks

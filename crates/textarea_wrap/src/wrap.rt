@@ -16,6 +16,7 @@ use textarea_util::limit::MAX_SIZE;
 
 pub mod columns;
 mod glyphs;
+mod kept;
 mod marks;
 mod units;
 mod words;
