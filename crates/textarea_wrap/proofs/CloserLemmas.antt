@@ -265,7 +265,7 @@ module _ (d : ℕ) (closed : is_closed (grapheme_cluster_break d) ≡ true) (fin
       let emoji = is_extended_pictographic next in
       let result = λ (l z f : Bool). λ (e : Bool). unwrap_or pair (not ((l && is_consonant (indic_conjunct_break next)) || (z && e && emoji) || (f && Grapheme.is_regional (grapheme_cluster_break next)))) in
       let none : (rest : List ℕ) → result (ends_in_linker (map indic_conjunct_break (d ∷ rest))) (is_zwj (grapheme_cluster_break d)) (ends_in_half_flag (d ∷ rest)) (ends_in_pictograph rest)
-          ≡ result (ends_in_linker []) false (ends_in_half_flag []) (ends_in_pictograph rest) = λ rest.
+      ≡ result (ends_in_linker []) false (ends_in_half_flag []) (ends_in_pictograph rest) = λ rest.
       ap (λ l. result l (is_zwj (grapheme_cluster_break d)) (ends_in_half_flag (d ∷ rest)) (ends_in_pictograph rest)) (conjunct-over [] rest)
       ∙ ap₂ (λ z f. result (ends_in_linker []) z f (ends_in_pictograph rest)) (closed_zwj (grapheme_cluster_break d) closed) (flag-over [] rest) in
       none before ∙ sym (none [])

@@ -4,7 +4,7 @@ use Rattle.std.specs.Prelude.{encode_utf8, encode_utf8_all}
 use Rattle.std.proofs.lemmas.List.{append_cancel_left, drop-take, take-take}
 use Rattle.std.proofs.lemmas.Str.{IsCharBoundary-from_take, IsUtf8-encode}
 use Rattle.textarea_wrap.proofs.Prelude.{IsCharBoundary-at_seam, IsCharBoundary-end, IsUtf8-between, IsUtf8-take, chars-append, chars-nil, chars_past_char, encodes-chars, flat_map-append, length-take-le, take-append-drop, take_at}
-use Rattle.std.proofs.Common.{◌≡◌, ℕ, zero, suc, ◌+◌, ◌-◌, ◌<◌, ◌≤◌, true, false, List, [], ◌∷◌, ◌++◌, get_or, map, length, take, drop, refl, sym, ap, ap₂, subst, ◌∙◌, append_assoc, append-nil, length-append, length-drop, arith}
+use Rattle.std.proofs.Common.{◌≡◌, ℕ, zero, suc, ◌+◌, ◌-◌, ◌<◌, ◌≤◌, true, List, [], ◌∷◌, ◌++◌, get_or, length, take, drop, refl, sym, ap, ap₂, subst, ◌∙◌, append_assoc, append-nil, length-append, length-drop, arith}
 use Rattle.std.proofs.lemmas.Bool.{false≢true}
 use Rattle.textarea_wrap.specs.Prelude.{AreRowTexts, IsCharBoundary, IsUtf8, IsWrapped, IsWrapping, Stretch, WrapMode, chars, concat, flat_map, line_units, ranges_from, units_of_segment}
 use Rattle.textarea_wrap.specs.declared.wrap.WrapMode.TheVariants as mode
@@ -14,10 +14,10 @@ use Rattle.unicode_segmentation.specs.Word.{is_word_break, word_bounds}
 use Rattle.unicode_segmentation.proofs.SegmentsLemmas.{concat-segments}
 use Rattle.textarea_wrap.proofs.CloserLemmas.{parts_graphemes, parts_units}
 use Rattle.textarea_wrap.proofs.GlyphLemmas.{nonempty_from_bytes, ranges_from-append}
-use Rattle.textarea_wrap.proofs.KeptGlyphLemmas.{AreSome, IsGlyphWrapping-kept}
+use Rattle.textarea_wrap.proofs.KeptGlyphLemmas.{IsGlyphWrapping-kept}
 use Rattle.textarea_wrap.proofs.KeptWordLemmas.{IsWordWrapping-kept}
 use Rattle.textarea_wrap.proofs.PartedLemmas.{segments-parted}
-use Rattle.textarea_wrap.proofs.RowLemmas.{AreNonempty-word_segments, AreSegments, AreSegments-line_units, AreSegments-segments, IsWrapped-glyphs, IsWrapped-units, concat-line_units}
+use Rattle.textarea_wrap.proofs.RowLemmas.{AreNonempty-word_segments, AreSegments-line_units, AreSegments-segments, IsWrapped-glyphs, IsWrapped-units, concat-line_units}
 
 -- ---- the clusters or units of a parted text
 

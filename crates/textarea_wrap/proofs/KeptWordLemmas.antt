@@ -1,9 +1,9 @@
 -- Rows of units before a parting, followed by the rows of what is after it.
 use Rattle.std.proofs.Math.Seq.{take-append-add, take-nil}
 use Rattle.std.proofs.lemmas.List.{take-append-le}
-use Rattle.textarea_wrap.proofs.Prelude.{cases_lt, concat-append, flat_map-append, length-take-le, take-append-drop}
+use Rattle.textarea_wrap.proofs.Prelude.{cases_lt, concat-append, flat_map-append, take-append-drop}
 use Rattle.std.proofs.Common.{◌≡◌, ℕ, ◌+◌, ◌-◌, ◌<◌, ◌≤◌, List, [], ◌∷◌, ◌++◌, length, take, drop, refl, sym, ap, ap₂, subst, ◌∙◌, ⊎_elim, append_assoc, append-nil, length-append, length-drop, arith}
-use Rattle.textarea_wrap.specs.Prelude.{AreBlocks, IsBlock, IsFittingStretch, IsWordWrapping, Stretch, UnitBlock, concat, flat_map, line_units, rows_of, shared, split, units_of}
+use Rattle.textarea_wrap.specs.Prelude.{AreBlocks, IsBlock, IsWordWrapping, Stretch, UnitBlock, concat, flat_map, line_units, rows_of, shared, split, units_of}
 use Rattle.textarea_util.proofs.Alls.{all_split}
 use Rattle.textarea_wrap.proofs.FewestLemmas.{fronts}
 use Rattle.textarea_wrap.proofs.KeptGlyphLemmas.{AreSome, none_left}

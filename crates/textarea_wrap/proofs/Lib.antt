@@ -2,6 +2,7 @@ mod Prelude
 pub mod BlankLemmas
 pub mod CloserLemmas
 pub mod ColumnLemmas
+pub mod CountedLemmas
 pub mod DigitLemmas
 pub mod FewestLemmas
 pub mod FewestRowLemmas
@@ -9,6 +10,7 @@ pub mod FewestWordLemmas
 pub mod FittingLemmas
 pub mod GlyphLemmas
 pub mod KeptGlyphLemmas
+pub mod KeptMarkLemmas
 pub mod KeptRowLemmas
 pub mod KeptWordLemmas
 pub mod MarkLemmas

@@ -1,5 +1,5 @@
 -- A text that is cut after a closing character: its segments are those of both parts.
-use Rattle.std.proofs.Common.{◌≡◌, ℕ, Bool, true, false, cond, List, [], ◌∷◌, ◌++◌, map, refl, sym, ap, ap₂, ◌∙◌, append-nil}
+use Rattle.std.proofs.Common.{◌≡◌, ℕ, Bool, true, false, List, [], ◌∷◌, ◌++◌, map, refl, sym, ap, ap₂, ◌∙◌, append-nil}
 use Rattle.std.specs.Prelude.{encode_utf8_all}
 use Rattle.textarea_wrap.proofs.Prelude.{chars-append, map-append}
 use Rattle.textarea_wrap.specs.Prelude.{IsUtf8, chars}

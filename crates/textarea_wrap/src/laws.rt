@@ -46,8 +46,3 @@ pub fn rest_fits()
         IsFittingStretch tab_len width (front ++ back) later →
         IsFittingStretch tab_len width back later ⊎ IsBlankCluster back }
 {}
-
-/// Scratch.
-pub fn scratch()
-    ensures { (n : ℕ) → n ≡ n }
-{}

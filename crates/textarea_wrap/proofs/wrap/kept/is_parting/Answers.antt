@@ -1,5 +1,5 @@
-use Rattle.std.proofs.Common.{rules, ◌≡◌, ◌-◌, ◌++◌, ◌∙◌, sym, ap, arith, encode_utf8, take, drop}
-use Rattle.std.specs.Str.{IsUtf8, chars, IsCharBoundary}
+use Rattle.std.proofs.Common.{◌≡◌, ◌-◌, ◌++◌, ◌∙◌, sym, ap, arith, encode_utf8, take, drop}
+use Rattle.std.specs.Str.{chars}
 use Rattle.std.specs.Char.{IsScalar}
 use Rattle.std.proofs.lemmas.Str.{IsUtf8-drop, IsUtf8-take, chars_past_char}
 use Rattle.textarea_wrap.proofs.KeptRowLemmas.{last_char}

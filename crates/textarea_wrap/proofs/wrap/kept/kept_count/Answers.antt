@@ -1,4 +1,4 @@
-use Rattle.std.proofs.Common.{◌<◌, ℕ, arith}
+use Rattle.std.proofs.Common.{arith}
 use Rattle.textarea_wrap.proofs.wrap.kept.kept_count.Goals as goal
 
 pub last_parting-second-requires-clause-boundaries : goal.last_parting-second-requires-clause-boundaries
