@@ -1,6 +1,6 @@
 -- Rows of clusters before a parting, followed by the rows of what is after it.
 use Rattle.textarea_wrap.proofs.Prelude.{concat-append, map-append, take-append-drop}
-use Rattle.std.proofs.lemmas.List.{take-map}
+use Rattle.std.proofs.lemmas.List.{drop-map, take-map}
 use Rattle.std.proofs.Common.{◌≡◌, ℕ, ◌+◌, ◌<◌, true, List, [], ◌∷◌, ◌++◌, map, length, take, drop, refl, sym, ap, ap₂, subst, ◌∙◌, ⊎_elim, append_assoc, append-nil, length-append, arith}
 use Rattle.textarea_wrap.specs.Prelude.{AllByRecursion, AreGlyphRows, IsGlyphRow, IsGlyphWrapping, Stretch, concat, stretches_of}
 use Rattle.unicode_segmentation.specs.Grapheme.{graphemes}
@@ -77,4 +77,27 @@ module _ (t w : ℕ) where
         whole = stretches_of-append kept rest.stretches ∙ ap₂ ◌++◌ same.0 after ∙ sym line_is;
         wrapped = AreGlyphRows-join kept rest.stretches [] (subst (λ s. AreGlyphRows t w kept (s ++ [])) (sym after) reads) rest.wrapped;
         rows_are = ap₂ ◌++◌ rows rest.rows_are ∙ sym (map-append concat kept rest.stretches);
+      }
+
+  AreGlyphRows-back : (a b : List Stretch) (later : Stretch) → AreGlyphRows t w (a ++ b) later → AreGlyphRows t w b later
+  AreGlyphRows-back [] b later h = h
+  AreGlyphRows-back (row ∷ a) b later h = AreGlyphRows-back a b later h.1
+
+  -- the other rows are those of what is after the first ones
+  pub IsGlyphWrapping-rest : (old tail : List ℕ) (texts : List (List ℕ)) (front : Stretch) (k : ℕ) → IsGlyphWrapping t w old texts → graphemes true old ≡ front ++ graphemes true tail →
+      AreSome (graphemes true old) → length (concat (take k texts)) ≡ length (concat front) → IsGlyphWrapping t w tail (drop k texts)
+  IsGlyphWrapping-rest old tail texts front k was old_is some bytes =
+      let kept = take k was.stretches in
+      let left = drop k was.stretches in
+      let whole : stretches_of kept ++ stretches_of left ≡ graphemes true old =
+      sym (stretches_of-append kept left) ∙ ap stretches_of (take-append-drop k was.stretches) ∙ was.whole in
+      let rows : take k texts ≡ map concat kept = ap (take k) was.rows_are ∙ take-map concat k was.stretches in
+      let size : length (concat (stretches_of kept)) ≡ length (concat front) =
+      ap length (sym (concat-stretches_of kept)) ∙ ap (λ r. length (concat r)) (sym rows) ∙ bytes in
+      let same = front_same (stretches_of kept) (stretches_of left) front (graphemes true tail) (whole ∙ old_is) (subst AreSome (sym whole) some) (subst AreSome old_is some) size in
+      record {
+        stretches = left;
+        whole = same.1;
+        wrapped = AreGlyphRows-back kept left [] (subst (λ s. AreGlyphRows t w s []) (sym (take-append-drop k was.stretches)) was.wrapped);
+        rows_are = ap (drop k) was.rows_are ∙ drop-map concat k was.stretches;
       }

@@ -2,20 +2,20 @@
 use Rattle.std.specs.Char.{IsScalar}
 use Rattle.std.specs.Prelude.{encode_utf8, encode_utf8_all}
 use Rattle.std.proofs.lemmas.List.{append_cancel_left, drop-take, take-take}
-use Rattle.std.proofs.lemmas.Str.{IsCharBoundary-from_take, IsUtf8-encode}
-use Rattle.textarea_wrap.proofs.Prelude.{IsCharBoundary-at_seam, IsCharBoundary-end, IsUtf8-between, IsUtf8-take, chars-append, chars-nil, chars_past_char, encodes-chars, flat_map-append, length-take-le, take-append-drop, take_at}
+use Rattle.std.proofs.lemmas.Str.{IsCharBoundary-from_take, IsUtf8-drop, IsUtf8-encode}
+use Rattle.textarea_wrap.proofs.Prelude.{IsCharBoundary-at_seam, IsCharBoundary-end, IsUtf8-between, IsUtf8-take, chars-append, chars-nil, chars_past_char, encodes-chars, flat_map-append, length-take-le, map-append, take-append-drop, take_at}
 use Rattle.std.proofs.Common.{◌≡◌, ℕ, zero, suc, ◌+◌, ◌-◌, ◌<◌, ◌≤◌, true, List, [], ◌∷◌, ◌++◌, get_or, length, take, drop, refl, sym, ap, ap₂, subst, ◌∙◌, append_assoc, append-nil, length-append, length-drop, arith}
 use Rattle.std.proofs.lemmas.Bool.{false≢true}
 use Rattle.textarea_wrap.specs.Prelude.{AreRowTexts, IsCharBoundary, IsUtf8, IsWrapped, IsWrapping, Stretch, WrapMode, chars, concat, flat_map, line_units, ranges_from, units_of_segment}
 use Rattle.textarea_wrap.specs.declared.wrap.WrapMode.TheVariants as mode
-use Rattle.textarea_wrap.specs.Partings.{AgreeUntil, ArePartings, IsParting, moved, parts, parts_clusters, parts_words}
+use Rattle.textarea_wrap.specs.Partings.{AgreeUntil, ArePartings, IsParting, met_rows, moved, parts, parts_clusters, parts_words}
 use Rattle.unicode_segmentation.specs.Grapheme.{graphemes, is_grapheme_break}
 use Rattle.unicode_segmentation.specs.Word.{is_word_break, word_bounds}
 use Rattle.unicode_segmentation.proofs.SegmentsLemmas.{concat-segments}
 use Rattle.textarea_wrap.proofs.CloserLemmas.{parts_graphemes, parts_units}
 use Rattle.textarea_wrap.proofs.GlyphLemmas.{nonempty_from_bytes, ranges_from-append}
-use Rattle.textarea_wrap.proofs.KeptGlyphLemmas.{IsGlyphWrapping-kept}
-use Rattle.textarea_wrap.proofs.KeptWordLemmas.{IsWordWrapping-kept}
+use Rattle.textarea_wrap.proofs.KeptGlyphLemmas.{IsGlyphWrapping-kept, IsGlyphWrapping-rest}
+use Rattle.textarea_wrap.proofs.KeptWordLemmas.{IsWordWrapping-kept, IsWordWrapping-rest}
 use Rattle.textarea_wrap.proofs.PartedLemmas.{segments-parted}
 use Rattle.textarea_wrap.proofs.RowLemmas.{AreNonempty-word_segments, AreSegments-line_units, AreSegments-segments, IsWrapped-glyphs, IsWrapped-units, concat-line_units}
 
@@ -196,11 +196,21 @@ range_start at zero (text ∷ texts) within = omega arith
 range_start at (suc k) (text ∷ texts) within =
     omega (arith, range_start (at + length text) k texts (omega arith), length-append text (concat (take k texts)))
 
-moved_ranges : (by at : ℕ) (texts : List (List ℕ)) → moved by (ranges_from at texts) ≡ ranges_from (by + at) texts
-moved_ranges by at [] = refl
-moved_ranges by at (text ∷ texts) =
-    let end : by + (at + length text) ≡ by + at + length text = omega arith in
-    ap₂ (λ n t. (by + at, n) ∷ t) end (moved_ranges by (at + length text) texts ∙ ap (λ n. ranges_from n texts) end)
+drop_ranges : (at k : ℕ) (texts : List (List ℕ)) → drop k (ranges_from at texts) ≡ ranges_from (at + length (concat (take k texts))) (drop k texts)
+drop_ranges at zero texts = ap (λ n. ranges_from n texts) (omega arith)
+drop_ranges at (suc k) [] = refl
+drop_ranges at (suc k) (text ∷ texts) =
+    drop_ranges (at + length text) k texts
+    ∙ ap (λ n. ranges_from n (drop k texts)) (omega (arith, length-append text (concat (take k texts))))
+
+moved_ranges : (from to start at : ℕ) (texts : List (List ℕ)) → start ≡ from + at → moved from to (ranges_from start texts) ≡ ranges_from (to + at) texts
+moved_ranges from to start at [] is = refl
+moved_ranges from to start at (text ∷ texts) is =
+    let begin : to + (start - from) ≡ to + at = omega (arith, is) in
+    let end : to + (start + length text - from) ≡ to + at + length text = omega (arith, is) in
+    let next : to + (at + length text) ≡ to + at + length text = omega arith in
+    ap₂ (λ n m. (n, m) ∷ moved from to (ranges_from (start + length text) texts)) begin end
+    ∙ ap (λ r. (to + at, to + at + length text) ∷ r) (moved_ranges from to (start + length text) (at + length text) texts (omega (arith, is)) ∙ ap (λ n. ranges_from n texts) next)
 
 wrapping_of : (kind : WrapMode) (t w : ℕ) (line : List ℕ) (texts : List (List ℕ)) → 0 < length line → AreRowTexts kind t w line texts → IsWrapping kind t w line texts
 wrapping_of kind t w [] texts some h = absurd (omega arith)
@@ -241,23 +251,92 @@ module _ (t w : ℕ) (old line : List ℕ) (texts others : List (List ℕ)) (p k
 -- then the rows of the text from there on, moved to it.
 pub IsWrapped-kept : (kind : WrapMode) (t w : ℕ) (old line : List ℕ) (ranges tail : List (ℕ × ℕ)) (k q r same : ℕ) → IsUtf8 line → AgreeUntil old line same → IsWrapped kind t w old ranges →
     k < length ranges → ArePartings kind line (get_or ranges k (0, 0)).0 q r same → IsWrapped kind t w (drop (get_or ranges k (0, 0)).0 line) tail →
-    IsWrapped kind t w line (take k ranges ++ moved (get_or ranges k (0, 0)).0 tail)
+    IsWrapped kind t w line (take k ranges ++ moved 0 (get_or ranges k (0, 0)).0 tail)
 IsWrapped-kept kind t w old line ranges tail k q r same u agree was within partings rest =
     let p = (get_or ranges k (0, 0)).0 in
     let before : p < same = let x = partings.first_before in let y = partings.second_before in let z = partings.third_before in omega arith in
     let bytes : length (concat (take k was.texts)) ≡ p =
     sym (ap (λ (r : List (ℕ × ℕ)). (get_or r k (0, 0)).0) was.ranges_are ∙ range_start 0 k was.texts (omega (arith, within, ap length was.ranges_are)) ∙ omega arith) in
     let first : take k ranges ≡ ranges_from 0 (take k was.texts) = ap (take k) was.ranges_are ∙ take_ranges 0 k was.texts in
-    let after : moved p tail ≡ ranges_from (0 + length (concat (take k was.texts))) rest.texts =
-    ap (moved p) rest.ranges_are ∙ moved_ranges p 0 rest.texts ∙ ap (λ n. ranges_from n rest.texts) (omega (arith, bytes)) in
+    let after : moved 0 p tail ≡ ranges_from (0 + length (concat (take k was.texts))) rest.texts =
+    ap (moved 0 p) rest.ranges_are ∙ moved_ranges 0 p 0 0 rest.texts (omega arith) ∙ ap (λ n. ranges_from n rest.texts) (omega (arith, bytes)) in
     let old_size = agree.old_boundary.0 in
     let size = agree.boundary.0 in
     let old_some : 0 < length old = omega arith in
     let some : 0 < length line = omega arith in
     let tail_some : 0 < length (drop p line) = omega (arith, length-drop p line) in
-    rows_kept t w old line was.texts rest.texts p k u agree.valid some (take k ranges ++ moved p tail)
+    rows_kept t w old line was.texts rest.texts p k u agree.valid some (take k ranges ++ moved 0 p tail)
     (ap₂ ◌++◌ first after ∙ sym (ranges_from-append 0 (take k was.texts) rest.texts)) bytes partings.first.boundary kind
     (same_pieces kind old line p q r same u agree partings) partings.first (wrapping_of kind t w old was.texts old_some was.wrapped) (wrapping_of kind t w (drop p line) rest.texts tail_some rest.wrapped)
+
+-- the rows from a parting on are those of the text from there on
+record IsRest (kind : WrapMode) (t w : ℕ) (old : List ℕ) (ranges : List (ℕ × ℕ)) (k : ℕ) : Type 0 where
+  texts : List (List ℕ)
+  wrapped : IsWrapped kind t w (drop (get_or ranges k (0, 0)).0 old) (ranges_from 0 texts)
+  ranges_are : drop k ranges ≡ ranges_from (get_or ranges k (0, 0)).0 texts
+
+module _ (t w : ℕ) (old : List ℕ) (texts : List (List ℕ)) (s k : ℕ) (u : IsUtf8 old) (start : IsCharBoundary old s) (bytes : length (concat (take k texts)) ≡ s) (some : 0 < length (drop s old)) where
+  front_bytes : length (take s old) ≡ s
+  front_bytes = length-take-le s old start.0
+
+  glyphs_rest : graphemes true old ≡ graphemes true (take s old) ++ graphemes true (drop s old) → IsWrapping mode.Glyph t w old texts → IsWrapped mode.Glyph t w (drop s old) (ranges_from 0 (drop k texts))
+  glyphs_rest parts_are was =
+      let size : length (concat (take k texts)) ≡ length (concat (graphemes true (take s old))) =
+      bytes ∙ sym (ap length (concat-segments (is_grapheme_break true) (take s old) (IsUtf8-take old s u start)) ∙ front_bytes) in
+      IsWrapped-glyphs t w (drop s old) (ranges_from 0 (drop k texts)) (IsUtf8-drop old s u start) some (drop k texts)
+      (IsGlyphWrapping-rest t w old (drop s old) texts (graphemes true (take s old)) k was parts_are (AreNonempty-word_segments (graphemes true old) (AreSegments-segments (is_grapheme_break true) old u)) size) refl
+
+  units_rest : (kind : WrapMode) → (kind ≡ mode.None → ⊥) → (kind ≡ mode.Glyph → ⊥) → line_units old ≡ line_units (take s old) ++ line_units (drop s old) → IsWrapping mode.Word t w old texts →
+      IsWrapped kind t w (drop s old) (ranges_from 0 (drop k texts))
+  units_rest kind not_none not_glyph parts_are was =
+      let size : length (concat (take k texts)) ≡ length (concat (line_units (take s old))) =
+      bytes ∙ sym (ap length (concat-line_units (take s old) (IsUtf8-take old s u start)) ∙ front_bytes) in
+      let all = IsWordWrapping-rest t w old (drop s old) texts (line_units (take s old)) k was parts_are (AreSegments-line_units old u) size in
+      IsWrapped-units t w (drop s old) (ranges_from 0 (drop k texts)) (IsUtf8-drop old s u start) some all.blocks all.whole all.wrapped (ap (ranges_from 0) all.rows_are) kind not_none not_glyph
+
+  rows_rest : (kind : WrapMode) → pieces_of kind old ≡ pieces_of kind (take s old) ++ pieces_of kind (drop s old) → IsParting kind old s → IsWrapping kind t w old texts →
+      IsWrapped kind t w (drop s old) (ranges_from 0 (drop k texts))
+  rows_rest mode.None parts_are parting was = absurd (false≢true parting.apart)
+  rows_rest mode.Word parts_are parting was = units_rest mode.Word (λ h. let no = h in absurd cc) (λ h. let no = h in absurd cc) parts_are was
+  rows_rest mode.Glyph parts_are parting was = glyphs_rest parts_are was
+  rows_rest mode.WordOrGlyph parts_are parting was = units_rest mode.WordOrGlyph (λ h. let no = h in absurd cc) (λ h. let no = h in absurd cc) parts_are was
+
+IsWrapped-rest : (kind : WrapMode) (t w : ℕ) (old : List ℕ) (ranges : List (ℕ × ℕ)) (k : ℕ) → IsUtf8 old → IsWrapped kind t w old ranges → k < length ranges → IsParting kind old (get_or ranges k (0, 0)).0 → IsRest kind t w old ranges k
+IsWrapped-rest kind t w old ranges k u was within parting =
+    let s = (get_or ranges k (0, 0)).0 in
+    let bytes : length (concat (take k was.texts)) ≡ s =
+    sym (ap (λ (r : List (ℕ × ℕ)). (get_or r k (0, 0)).0) was.ranges_are ∙ range_start 0 k was.texts (omega (arith, within, ap length was.ranges_are)) ∙ omega arith) in
+    let rest : IsUtf8 (drop s old) = IsUtf8-drop old s u parting.boundary in
+    let some : 0 < length (drop s old) = some_chars (drop s old) parting.next parting.after parting.back_is in
+    let old_some : 0 < length old = omega (arith, length-drop s old, some) in
+    let whole : pieces_of kind old ≡ pieces_of kind (take s old) ++ pieces_of kind (drop s old) =
+    ap (pieces_of kind) (sym (take-append-drop s old))
+    ∙ pieces_parted (take s old) (drop s old) parting.before parting.after parting.last parting.next (IsUtf8-take old s u parting.boundary) parting.front_is parting.back_is kind parting.apart in
+    record {
+      texts = drop k was.texts;
+      wrapped = rows_rest t w old was.texts s k u parting.boundary bytes some kind whole parting (wrapping_of kind t w old was.texts old_some was.wrapped);
+      ranges_are = ap (drop k) was.ranges_are ∙ drop_ranges 0 k was.texts ∙ ap (λ n. ranges_from n (drop k was.texts)) (omega (arith, bytes));
+    }
+  where
+    some_chars : (text : List ℕ) (next : ℕ) (after : List ℕ) → chars text ≡ next ∷ after → 0 < length text
+    some_chars [] next after is = absurd (let none = sym chars-nil ∙ is in cc)
+    some_chars (b ∷ text) next after is = omega arith
+
+-- The rows of a front of a text, up to one that begins where an old row does, at a parting of both,
+-- after which both texts are the same; and then the old rows from there on.
+pub IsWrapped-meeting : (kind : WrapMode) (t w : ℕ) (old text : List ℕ) (ranges window : List (ℕ × ℕ)) (row count q r size : ℕ) → IsUtf8 old → IsUtf8 text → IsWrapped kind t w old ranges → row < length ranges →
+    IsParting kind old (get_or ranges row (0, 0)).0 → IsCharBoundary text size → IsWrapped kind t w (take size text) window → count < length window → ArePartings kind text (get_or window count (0, 0)).0 q r size →
+    drop (get_or ranges row (0, 0)).0 old ≡ drop (get_or window count (0, 0)).0 text →
+    IsWrapped kind t w text (take count window ++ moved (get_or ranges row (0, 0)).0 (get_or window count (0, 0)).0 (drop row ranges))
+IsWrapped-meeting kind t w old text ranges window row count q r size v u was within parting boundary front inside partings same =
+    let from = (get_or ranges row (0, 0)).0 in
+    let to = (get_or window count (0, 0)).0 in
+    let rest = IsWrapped-rest kind t w old ranges row v was within parting in
+    let all = IsWrapped-kept kind t w (take size text) text window (ranges_from 0 rest.texts) count q r size u (agree_front text size u boundary) front inside partings
+    (subst (λ l. IsWrapped kind t w l (ranges_from 0 rest.texts)) same rest.wrapped) in
+    let after : moved 0 to (ranges_from 0 rest.texts) ≡ moved from to (drop row ranges) =
+    moved_ranges 0 to 0 0 rest.texts (omega arith) ∙ sym (ap (moved from to) rest.ranges_are ∙ moved_ranges from to from 0 rest.texts (omega arith)) in
+    subst (λ tail. IsWrapped kind t w text (take count window ++ tail)) after all
 
 -- the last character of a text
 pub last_char : (text rest : List ℕ) (c : ℕ) → IsUtf8 text → IsScalar c → text ≡ rest ++ encode_utf8 c → chars text ≡ chars rest ++ c ∷ []
@@ -267,3 +346,17 @@ last_char text rest c u scalar is =
     let front : IsUtf8 rest = subst IsUtf8 (ap (take (length rest)) is ∙ take_at rest (encode_utf8 c) (length rest) refl) (IsUtf8-take text (length rest) u seam) in
     let alone : chars (encode_utf8 c) ≡ c ∷ [] = chars_past_char (encode_utf8 c) [] c one (sym (append-nil (encode_utf8 c))) ∙ ap (λ t. c ∷ t) chars-nil in
     ap chars is ∙ chars-append rest (encode_utf8 c) front ∙ ap (λ t. chars rest ++ t) alone
+
+-- ranges that are moved twice
+moved_again : (from to start : ℕ) (ranges : List (ℕ × ℕ)) → moved 0 start (moved from to ranges) ≡ moved from (start + to) ranges
+moved_again from to start [] = refl
+moved_again from to start (range ∷ ranges) =
+    let begin : start + (to + (range.0 - from) - 0) ≡ start + to + (range.0 - from) = omega arith in
+    let end : start + (to + (range.1 - from) - 0) ≡ start + to + (range.1 - from) = omega arith in
+    ap₂ (λ n m. (n, m) ∷ moved 0 start (moved from to ranges)) begin end ∙ ap (λ r. (start + to + (range.0 - from), start + to + (range.1 - from)) ∷ r) (moved_again from to start ranges)
+
+pub moved_met : (window : List (ℕ × ℕ)) (count : ℕ) (rows : List (ℕ × ℕ)) (row start : ℕ) →
+    moved 0 start (met_rows window count rows row) ≡ moved 0 start (take count window) ++ moved (get_or rows row (0, 0)).0 (start + (get_or window count (0, 0)).0) (drop row rows)
+moved_met window count rows row start =
+    map-append (λ (range : ℕ × ℕ). (start + (range.0 - 0), start + (range.1 - 0))) (take count window) (moved (get_or rows row (0, 0)).0 (get_or window count (0, 0)).0 (drop row rows))
+    ∙ ap (λ t. moved 0 start (take count window) ++ t) (moved_again (get_or rows row (0, 0)).0 (get_or window count (0, 0)).0 start (drop row rows))

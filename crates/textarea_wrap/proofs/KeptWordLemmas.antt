@@ -1,6 +1,6 @@
 -- Rows of units before a parting, followed by the rows of what is after it.
 use Rattle.std.proofs.Math.Seq.{take-append-add, take-nil}
-use Rattle.std.proofs.lemmas.List.{take-append-le}
+use Rattle.std.proofs.lemmas.List.{append_cancel_left, take-append-le}
 use Rattle.textarea_wrap.proofs.Prelude.{cases_lt, concat-append, flat_map-append, take-append-drop}
 use Rattle.std.proofs.Common.{◌≡◌, ℕ, ◌+◌, ◌-◌, ◌<◌, ◌≤◌, List, [], ◌∷◌, ◌++◌, length, take, drop, refl, sym, ap, ap₂, subst, ◌∙◌, ⊎_elim, append_assoc, append-nil, length-append, length-drop, arith}
 use Rattle.textarea_wrap.specs.Prelude.{AreBlocks, IsBlock, IsWordWrapping, Stretch, UnitBlock, concat, flat_map, line_units, rows_of, shared, split, units_of}
@@ -160,4 +160,24 @@ module _ (t w : ℕ) where
         whole = flat_map-append units_of p.kept rest.blocks ∙ ap₂ ◌++◌ p.front_is after ∙ sym line_is;
         wrapped = AreBlocks-join p.kept rest.blocks [] (subst (λ s. AreBlocks t w p.kept (s ++ [])) (sym after) reads) rest.wrapped;
         rows_are = ap₂ ◌++◌ (ap (take k) was.rows_are ∙ sym p.rows_are) rest.rows_are ∙ sym (flat_map-append rows_of p.kept rest.blocks);
+      }
+
+  AreBlocks-back : (a b : List UnitBlock) (later : Stretch) → AreBlocks t w (a ++ b) later → AreBlocks t w b later
+  AreBlocks-back [] b later h = h
+  AreBlocks-back (block ∷ a) b later h = AreBlocks-back a b later h.1
+
+  -- the other rows are those of what is after the first ones
+  pub IsWordWrapping-rest : (old tail : List ℕ) (texts : List (List ℕ)) (front : Stretch) (k : ℕ) → IsWordWrapping t w old texts → line_units old ≡ front ++ line_units tail →
+      AreSegments (line_units old) → length (concat (take k texts)) ≡ length (concat front) → IsWordWrapping t w tail (drop k texts)
+  IsWordWrapping-rest old tail texts front k was old_is segs bytes =
+      let p = parted was.blocks [] front (line_units tail) k was.wrapped (subst AreSegments (sym was.whole) segs) (was.whole ∙ old_is)
+      (ap (λ r. length (concat (take k r))) (sym was.rows_are) ∙ bytes) in
+      let rows = flat_map rows_of was.blocks in
+      let split_rows : take k rows ++ drop k rows ≡ take k rows ++ flat_map rows_of p.left =
+      take-append-drop k rows ∙ ap (flat_map rows_of) (sym p.blocks_are) ∙ flat_map-append rows_of p.kept p.left ∙ ap (λ r. r ++ flat_map rows_of p.left) p.rows_are in
+      record {
+        blocks = p.left;
+        whole = p.back_is;
+        wrapped = AreBlocks-back p.kept p.left [] (subst (λ b. AreBlocks t w b []) (sym p.blocks_are) was.wrapped);
+        rows_are = ap (drop k) was.rows_are ∙ append_cancel_left (take k rows) (drop k rows) (flat_map rows_of p.left) split_rows;
       }

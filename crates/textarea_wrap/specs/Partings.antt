@@ -1,5 +1,5 @@
 -- Offsets at which a line can be parted: its grapheme clusters or units are then those of both parts.
-use Rattle.std.specs.Prelude.{◌≡◌, ℕ, ◌+◌, ◌<◌, Bool, true, false, not, ◌&&◌, List, [], ◌∷◌, ◌++◌, map, take, drop, chars}
+use Rattle.std.specs.Prelude.{◌≡◌, ℕ, ◌+◌, ◌-◌, ◌<◌, ◌≤◌, Bool, true, false, not, ◌&&◌, List, [], ◌∷◌, ◌++◌, get_or, length, map, take, drop, chars}
 use Rattle.std.specs.Str.{IsCharBoundary, IsUtf8}
 use Rattle.ucd_breaks.specs.GraphemeClusterBreak.{grapheme_cluster_break}
 use Rattle.ucd_breaks.specs.declared.GraphemeClusterBreak.{GraphemeClusterBreak}
@@ -11,7 +11,9 @@ use Rattle.ucd_derived.specs.IndicConjunctBreak.{indic_conjunct_break}
 use Rattle.ucd_derived.specs.declared.IndicConjunctBreak.{IndicConjunctBreak}
 use Rattle.ucd_derived.specs.declared.IndicConjunctBreak.TheVariants as conjunct
 use Rattle.ucd_emoji.specs.Binary.{is_extended_pictographic}
+use Rattle.textarea_wrap.specs.WrapResult.{IsWrapped}
 use Rattle.textarea_wrap.specs.declared.wrap.WrapMode.{WrapMode}
+use Rattle.textarea_wrap.specs.declared.wrap.kept.Meeting.{Meeting}
 use Rattle.textarea_wrap.specs.declared.wrap.WrapMode.TheVariants as mode
 
 -- ---- between words
@@ -98,6 +100,18 @@ pub record AgreeUntil (old line : List ℕ) (same : ℕ) : Type 0 where
   pub boundary : IsCharBoundary line same
   pub agree : take same old ≡ take same line
 
--- the ranges, each this many bytes later
-abbrev pub moved : ℕ → List (ℕ × ℕ) → List (ℕ × ℕ)
-moved by ranges = map (λ (range : ℕ × ℕ). (by + range.0, by + range.1)) ranges
+-- the ranges, moved so that what is at the offset `from` is at the offset `to`
+abbrev pub moved : ℕ → ℕ → List (ℕ × ℕ) → List (ℕ × ℕ)
+moved from to ranges = map (λ (range : ℕ × ℕ). (to + (range.0 - from), to + (range.1 - from))) ranges
+
+-- some rows of a window, and then the rows of an old text from a row on, moved to where the window's
+-- next row begins
+abbrev pub met_rows : List (ℕ × ℕ) → ℕ → List (ℕ × ℕ) → ℕ → List (ℕ × ℕ)
+met_rows window count rows row = take count window ++ moved (get_or rows row (0, 0)).0 (get_or window count (0, 0)).0 (drop row rows)
+
+-- the rows of the text are those of its front up to one, and then those of an old text
+pub record IsMeeting (kind : WrapMode) (tab_len width : ℕ) (text : List ℕ) (rows : List (ℕ × ℕ)) (meeting : Meeting) : Type 0 where
+  pub count_within : meeting.count < length meeting.window.items
+  pub row_within : meeting.row < length rows
+  pub window_ends : (k : ℕ) → k < length meeting.window.items → ((get_or meeting.window.items k (0, 0)).0 ≤ length text) × ((get_or meeting.window.items k (0, 0)).1 ≤ length text)
+  pub wrapped : IsWrapped kind tab_len width text (met_rows meeting.window.items meeting.count rows meeting.row)

@@ -40,7 +40,7 @@ rewrapped c =
     let all = IsWrapped-kept c.args.mode c.args.tab_len c.args.width old line rows rest.0 kept found.0 found.1 same c.utf8.line agree before within found.2 rest.1 in
     let near : (get_or rows kept (0, 0)).0 ≤ same = let p = found.2.first_before in let q = found.2.second_before in let r = found.2.third_before in omega arith in
     let marks : c.marks.result.now ≡ marks_of old rows = c.marks.ensures ∙ c.requires.old_marks ∙ ap (marks_of old) (sym c.as_slice-rows.ensures) in
-    let tail = moved (get_or rows kept (0, 0)).0 rest.0 in
+    let tail = moved 0 (get_or rows kept (0, 0)).0 rest.0 in
     record {
       tail = tail;
       items_are = rest.2;
