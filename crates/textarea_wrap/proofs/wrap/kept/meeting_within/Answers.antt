@@ -1,7 +1,7 @@
-use Rattle.std.proofs.Common.{◌≡◌, ◌+◌, ◌-◌, ◌<◌, ◌≤◌, ◌++◌, List, ℕ, ap, ◌∙◌, sym, subst, arith, drop, get_or, length, take}
+use Rattle.std.proofs.Common.{◌≡◌, ◌-◌, ◌<◌, List, ℕ, ap, ◌∙◌, subst, arith, drop, get_or, length, take}
 use Rattle.textarea_wrap.proofs.Prelude.{length-take-le}
 use Rattle.textarea_wrap.specs.Prelude.{IsRowRange, IsWrapped}
-use Rattle.textarea_wrap.specs.Partings.{ArePartings, moved}
+use Rattle.textarea_wrap.specs.Partings.{ArePartings}
 use Rattle.textarea_util.proofs.Alls.{all_at}
 use Rattle.textarea_wrap.proofs.KeptRowLemmas.{IsWrapped-meeting}
 use Rattle.textarea_wrap.proofs.wrap.kept.meeting_within.Goals as goal

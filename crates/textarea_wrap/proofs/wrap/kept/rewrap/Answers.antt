@@ -1,5 +1,5 @@
-use Rattle.std.proofs.Common.{◌≡◌, ◌+◌, ◌-◌, ◌<◌, ◌≤◌, List, ℕ, ap, ◌∙◌, arith, get_or, length, length-drop, subst, sym}
-use Rattle.textarea_wrap.specs.Prelude.{IsRowRange, IsWrapped}
+use Rattle.std.proofs.Common.{◌≡◌, ◌-◌, ap, ◌∙◌, arith, get_or, length, length-drop}
+use Rattle.textarea_wrap.specs.Prelude.{IsRowRange}
 use Rattle.textarea_util.proofs.Alls.{all_at}
 use Rattle.textarea_wrap.proofs.MarkLemmas.{rows_ordered}
 use Rattle.textarea_wrap.proofs.wrap.kept.rewrap.Goals as goal
