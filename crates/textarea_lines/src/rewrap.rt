@@ -1,6 +1,7 @@
 //! Wrapping of lines for a change.
 ghost use Rattle.std.specs.Prelude.{◌≡◌, ◌≢◌, ◌+◌, ◌-◌, ◌^◌, ◌<◌, ◌≤◌, ◌++◌, [], ℕ, List, get_or, length, vec_capacity, vec_len, IfOk, None, OnOk};
 ghost use Rattle.textarea_lines.specs.Prelude.{lines_of, AreRowsOf, ticks_after, ticks_of, all_rows, CanStayWhole, HasWholeLine, count_after, lines_after, AreReadyRows, CanReplace};
+ghost use Rattle.textarea_screen_map.specs.Prepared.{IsPreparedFor, rows_in};
 
 use crate::settings::{LayoutSettings, is_same, wrapping_for};
 use std::alloc::{AllocError, Global};
@@ -77,6 +78,45 @@ fn with_rows_of(
     Ok(rows)
 }
 
+// Returns the rows of the replacement's lines, which are wrapped as before. Of one line that
+// replaces another one, only what the change may have changed is wrapped.
+fn prepare_lines(
+    alloc: Global,
+    map: &mut ScreenMap,
+    lines: &[String],
+    replacement: &Replacement,
+    wrapping: Wrapping,
+    count: &mut WrapCount,
+) -> Result<PreparedRows, AllocError>
+    requires within { replacement.now.row + replacement.now.count ≤ length lines.now }
+    requires rows { AreRowsOf wrapping (lines_of lines.now) map.old.rows }
+    ensures same { map.new.rows ≡ map.old.rows }
+    ensures same_wrapping { map.new.wrapping ≡ map.old.wrapping }
+    ensures prepared { IfOk result
+        (IsPreparedFor map.new replacement.now.row replacement.now.count wrapping) }
+    ensures rows { IfOk result (λ prepared.
+        AreRowsOf wrapping (lines_of replacement.now.lines.items) (rows_in prepared.rows)) }
+    ensures ticks { IfOk result (λ prepared. ticks_of (rows_in prepared.rows)
+        ≡ ticks_after count.old (length replacement.now.lines.items)) }
+    ensures counted { OnOk result
+        (count.new ≡ count.old + length replacement.now.lines.items) }
+    ensures never_less { count.old ≤ count.new }
+{
+    let row = replacement.row;
+    let new = replacement.lines.as_slice();
+    if replacement.count != 1 || new.len() != 1 {
+        return map.prepare(alloc, row, replacement.count, new, wrapping, count);
+    }
+    map.prepare_changed(
+        alloc,
+        row,
+        lines[row].as_str(),
+        new[0].as_str(),
+        wrapping,
+        count,
+    )
+}
+
 // Returns the rows to put in for the replacement: those of its lines, or of all lines if the new
 // number of lines changes how lines are wrapped.
 fn prepare_rows(
@@ -98,7 +138,7 @@ fn prepare_rows(
     let before = map.wrapping();
     let after = wrapping_for(settings, lines.len() - replacement.count + new.len());
     if is_same(after, before) {
-        return map.prepare(alloc, replacement.row, replacement.count, new, after, count);
+        return prepare_lines(alloc, map, lines, replacement, after, count);
     }
     let rows = rows_after(alloc, lines, replacement, after, count)?;
     map.make_room(0, lines.len(), NewRows::Many(rows), after)

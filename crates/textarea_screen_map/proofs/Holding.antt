@@ -1,12 +1,13 @@
 -- Consecutive rows of one line, and the row of an offset.
-use Rattle.std.proofs.Common.{◌≡◌, ℕ, zero, suc, ◌+◌, ◌<◌, ◌≤◌, inl, inr, max, List, [], ◌∷◌, length, get_or, sym, ap, refl, ◌∙◌, arith, subst, encode_utf8_all, String, string_bytes}
+use Rattle.std.proofs.Common.{◌≡◌, ℕ, zero, suc, ◌+◌, ◌<◌, ◌≤◌, inl, inr, max, List, [], ◌∷◌, length, get_or, sym, ap, ap₂, refl, ◌∙◌, arith, subst, encode_utf8_all, String, string_bytes}
 use Rattle.std.proofs.lemmas.Bool.{cases_lt}
-use Rattle.std.proofs.lemmas.List.{length-append}
+use Rattle.std.proofs.lemmas.List.{length-append, length-map}
 use Rattle.std.proofs.Math.ListN.{get_or-map}
 use Rattle.std.proofs.lemmas.Str.{encodes-chars, IsUtf8-string_bytes}
 use Rattle.std.specs.List.{concat}
-use Rattle.textarea_text.specs.Text.{lines_of}
+use Rattle.textarea_text.specs.Text.{characters_of, lines_of}
 use Rattle.textarea_text.proofs.StringRows.{line_at}
+use Rattle.textarea_wrap.specs.Marks.{marks_of}
 use Rattle.textarea_wrap.specs.RowsView.{RowsView}
 use Rattle.textarea_wrap.specs.WrapRules.{ranges_from}
 use Rattle.textarea_wrap.specs.WrapResult.{IsWrapped, IsRowRange, AreRowTexts}
@@ -14,7 +15,7 @@ use Rattle.textarea_wrap.specs.declared.wrap.WrapMode.{WrapMode}
 use Rattle.textarea_wrap.proofs.FewestRowLemmas.{length-ranges_from}
 use Rattle.textarea_screen_map.specs.declared.layout.Wrapping.{Wrapping}
 use Rattle.textarea_screen_map.specs.LineRows.{AreRowsOf, AreRowsOfLine}
-use Rattle.textarea_blocks.specs.Sums.{ranges_at, range_at}
+use Rattle.textarea_blocks.specs.Sums.{marks_at, ranges_at, range_at}
 use Rattle.textarea_util.proofs.Alls.{all_at}
 
 -- a row begins where the one before it ends
@@ -101,6 +102,19 @@ range_is mode tab_len width line ranges row h within = all_at (IsRowRange line) 
 pub bytes_of_line : {Z : Type 0} (items : List (String Z)) (i : ℕ) (line : String Z) (text : List ℕ) → i < length items → line ≡ get_or items i line → text ≡ string_bytes line → text ≡ encode_utf8_all (get_or (lines_of items) i [])
 bytes_of_line items i line text within read same =
     same ∙ sym (encodes-chars (string_bytes line) (IsUtf8-string_bytes line)) ∙ ap encode_utf8_all (sym (line_at items i line within read))
+
+-- the rows of a line, given by its bytes, and their marks
+pub wrapped_line : {Z : Type 0} (w : Wrapping) (items : List (String Z)) (rows : List RowsView) (i : ℕ) (line : String Z) (text : List ℕ) → AreRowsOf w (lines_of items) rows → i < length items
+    → line ≡ get_or items i line → text ≡ string_bytes line → IsWrapped w.mode w.tab_len (max w.width 1) text (ranges_at rows i) × (marks_at rows i ≡ marks_of text (ranges_at rows i))
+wrapped_line w items rows i line text h within read same =
+    let none : RowsView = record { ranges = []; marks = []; tick = 0 } in
+    let inside : i < length (lines_of items) = omega (arith, length-map items characters_of, within) in
+    let bytes = sym (bytes_of_line items i line text within read same) in
+    let ranges = get_or-map (λ (r : RowsView). r.ranges) rows i none in
+    let marks = get_or-map (λ (r : RowsView). r.marks) rows i none in (
+      subst (λ t. IsWrapped w.mode w.tab_len (max w.width 1) t (ranges_at rows i)) bytes (wrapped_at w (lines_of items) rows i h inside),
+      marks ∙ (rows_at w (lines_of items) rows i h inside).marked ∙ ap₂ (λ (t : List ℕ) (r : List (ℕ × ℕ)). marks_of t r) bytes (sym ranges),
+    )
 
 -- ---- a row and an offset as in the code
 

@@ -1,10 +1,10 @@
 -- Rows of lines, split and joined.
 use Rattle.std.proofs.lemmas.Grind.{common_steps}
-use Rattle.std.proofs.Common.{map, ap₂, ◌≡◌, ℕ, zero, suc, ◌+◌, ◌<◌, max, List, [], ◌∷◌, ◌++◌, length, take, drop, get_or, ap, refl, ◌∙◌, arith, encode_utf8_all, String, string_bytes}
+use Rattle.std.proofs.Common.{map, ap₂, ◌≡◌, ℕ, zero, suc, ◌+◌, ◌<◌, max, List, [], ◌∷◌, ◌++◌, length, take, drop, get_or, ap, refl, subst, sym, ◌∙◌, arith, encode_utf8_all, String, string_bytes}
 use Rattle.std.proofs.lemmas.List.{append_assoc, length-map, map-append, take_more}
-use Rattle.std.proofs.lemmas.Str.{scalars-chars, IsUtf8-string_bytes}
+use Rattle.std.proofs.lemmas.Str.{encodes-chars, scalars-chars, IsUtf8-string_bytes}
 use Rattle.std.specs.List.{range_with_len}
-use Rattle.std.specs.Str.{all_scalars}
+use Rattle.std.specs.Str.{IsUtf8, all_scalars, chars}
 use Rattle.textarea_util.specs.Limit.{size_limit}
 use Rattle.textarea_text.specs.Text.{characters_of, lines_of}
 use Rattle.textarea_text.proofs.StringRows.{line_at}
@@ -68,6 +68,18 @@ AreRowsOf-more w before items i line text rows wrapped within read same h k mark
     } in
     rw (take_more (lines_of items) i [] (omega (arith, length-map items characters_of)), ← append_assoc)
     (AreRowsOf-append w (before ++ take i (lines_of items)) (get_or (lines_of items) i [] ∷ []) rows (wrapped ∷ []) h (here, tt))
+
+-- the rows of one line, given by its bytes
+pub AreRowsOfLine-text : (w : Wrapping) (text : List ℕ) (wrapped : RowsView) → IsUtf8 text → IsWrapped w.mode w.tab_len (max w.width 1) text wrapped.ranges → wrapped.marks ≡ marks_of text wrapped.ranges
+    → length text < size_limit → AreRowsOfLine w (chars text) wrapped
+AreRowsOfLine-text w text wrapped u k marked short =
+    let bytes : text ≡ encode_utf8_all (chars text) = sym (encodes-chars text u) in
+    record {
+      characters = scalars-chars text u;
+      short = omega (arith, short, ap length bytes);
+      wrapped = subst (λ t. IsWrapped w.mode w.tab_len (max w.width 1) t wrapped.ranges) bytes k;
+      marked = marked ∙ ap (λ t. marks_of t wrapped.ranges) bytes;
+    }
 
 range_append : (first size more : ℕ) → range_with_len first size ++ range_with_len (first + size) more ≡ range_with_len first (size + more)
 range_append first zero more = grind (arith, common_steps)

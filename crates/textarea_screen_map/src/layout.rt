@@ -1,10 +1,12 @@
 //! The visual rows of several lines.
-ghost use Rattle.std.specs.Prelude.{◌≡◌, ◌+◌, ◌≤◌, ◌++◌, ℕ, List, length, IfOk, OnOk};
+ghost use Rattle.std.specs.Prelude.{◌≡◌, ◌+◌, ◌≤◌, ◌∷◌, ◌++◌, [], ℕ, List, chars, length, max, IfOk, OnOk};
 ghost use Rattle.textarea_screen_map.specs.Prelude.{size_limit, size_of, lines_of, AreRowsOf, ticks_after, ticks_of, IsRowCount};
+ghost use Rattle.textarea_wrap.specs.Marks.{marks_of};
+ghost use Rattle.textarea_wrap.specs.WrapResult.{IsWrapped};
 
 use std::alloc::{AllocError, Global};
 use textarea_text::rows::size_within_limit;
-use textarea_wrap::wrap::{Rows, WrapCount, WrapMode, line_ranges};
+use textarea_wrap::wrap::{Rows, WrapCount, WrapMode, line_ranges, line_ranges_after};
 
 /// How lines are wrapped: the mode, the width in columns, where 0 counts as 1, and the columns
 /// between tab stops. In the mode `None` each line is one row.
@@ -66,6 +68,39 @@ pub fn rows_of(
 {
     let mut rows = Vec::with_capacity(alloc, lines.len())?;
     push_rows(alloc, &mut rows, lines, wrapping, count)?;
+    Ok(rows)
+}
+
+/// Returns the rows of a line that replaces another one, `old_line`, whose rows are `old`. The same as
+/// `rows_of`, but only what the change may have changed is wrapped. Adds one to `count`.
+pub fn rows_of_changed(
+    alloc: Global,
+    line: &str,
+    old_line: &str,
+    old: &Rows,
+    wrapping: Wrapping,
+    count: &mut WrapCount,
+) -> Result<Vec<Rows>, AllocError>
+    requires wrapped { IsWrapped wrapping.mode wrapping.tab_len (max wrapping.width 1) old_line.now
+        old.now.ranges }
+    requires marked { old.now.marks ≡ marks_of old_line.now old.now.ranges }
+    ensures counted { OnOk result (count.new ≡ count.old + 1) }
+    ensures never_less { count.old ≤ count.new }
+    ensures rows { IfOk result (λ rows. AreRowsOf wrapping (chars line.now ∷ []) rows.items) }
+    ensures ticks { IfOk result (λ rows. ticks_of rows.items ≡ ticks_after count.old 1) }
+{
+    let mut rows = Vec::with_capacity(alloc, 1)?;
+    let wrapped = line_ranges_after(
+        alloc,
+        line,
+        wrapping.mode,
+        wrapping.width,
+        wrapping.tab_len,
+        old_line,
+        old,
+        count,
+    )?;
+    rows.push(wrapped)?;
     Ok(rows)
 }
 

@@ -1,9 +1,11 @@
 //! The visual rows of each line of a text, in blocks of lines. They count from 0 over all lines.
-ghost use Rattle.std.specs.Prelude.{◌≡◌, ◌+◌, ◌*◌, ◌<◌, ◌≤◌, ◌↔◌, ◌∷◌, [], ℕ, List, length, min, take, IfOk, IsOk, OnErr, OnOk};
+ghost use Rattle.std.specs.Prelude.{◌≡◌, ◌+◌, ◌*◌, ◌<◌, ◌≤◌, ◌↔◌, ◌∷◌, [], ℕ, List, chars, length, max, min, take, IfOk, IsOk, OnErr, OnOk};
 ghost use Rattle.textarea_screen_map.specs.Prelude.{size_limit, replaced, size_of, lines_of, AreRowsOf, ticks_after, ticks_of, with_tab_len, IsEdge, all_rows, IsWithinLimit, marks_at, ranges_at, row_total, size_total, HasRoom, CanPutRows, IsPreparedFor, rows_in, rows_with};
+ghost use Rattle.textarea_wrap.specs.Marks.{marks_of};
+ghost use Rattle.textarea_wrap.specs.WrapResult.{IsWrapped};
 ghost use Rattle.textarea_wrap.specs.declared.wrap.WrapMode.TheVariants as mode;
 
-use crate::layout::{Wrapping, rows_of};
+use crate::layout::{Wrapping, rows_of, rows_of_changed};
 use crate::wrapped_blocks::{BLOCK, push_lines};
 pub use look_up::RowText;
 use std::alloc::{AllocError, Global};
@@ -193,6 +195,38 @@ impl ScreenMap {
     {
         let rows = new_rows(alloc, lines, wrapping, counter)?;
         self.make_room(row, count, rows, wrapping)
+    }
+
+    /// The same for one line that replaces another one, `old_line`: only what the change may have
+    /// changed is wrapped.
+    pub fn prepare_changed(
+        &mut self,
+        alloc: Global,
+        row: usize,
+        old_line: &str,
+        line: &str,
+        wrapping: Wrapping,
+        counter: &mut WrapCount,
+    ) -> Result<PreparedRows, AllocError>
+        requires within { row < length self.old.rows }
+        requires wrapped { IsWrapped wrapping.mode wrapping.tab_len (max wrapping.width 1)
+            old_line.now (ranges_at self.old.rows row) }
+        requires marked { marks_at self.old.rows row
+            ≡ marks_of old_line.now (ranges_at self.old.rows row) }
+        ensures same { self.new.rows ≡ self.old.rows }
+        ensures same_wrapping { self.new.wrapping ≡ self.old.wrapping }
+        ensures err { OnErr result (self.new ≡ self.old) }
+        ensures prepared { IfOk result (IsPreparedFor self.new row 1 wrapping) }
+        ensures rows { IfOk result (λ prepared.
+            AreRowsOf wrapping (chars line.now ∷ []) (rows_in prepared.rows)) }
+        ensures ticks { IfOk result (λ prepared.
+            ticks_of (rows_in prepared.rows) ≡ ticks_after counter.old 1) }
+        ensures counted { OnOk result (counter.new ≡ counter.old + 1) }
+        ensures never_less { counter.old ≤ counter.new }
+    {
+        let old = self.rows_at(row);
+        let rows = rows_of_changed(alloc, line, old_line, old, wrapping, counter)?;
+        self.make_room(row, 1, NewRows::Few(rows), wrapping)
     }
 
     /// Reserves room for rows, of this wrapping, that will replace those of the `count` lines from

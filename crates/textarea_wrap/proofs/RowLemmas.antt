@@ -90,7 +90,7 @@ concat-glyphs tab_len width text rows u wrapping =
     ap concat wrapping.rows_are ∙ concat-stretches_of wrapping.stretches ∙ ap concat wrapping.whole ∙ concat-segments (is_grapheme_break true) text u
 
 -- the rows of a block are not empty, and make up its units
-AreSegments-block : (tab_len width : ℕ) (block : UnitBlock) (later : Stretch) → IsBlock tab_len width block later → AreSegments (units_of block)
+pub AreSegments-block : (tab_len width : ℕ) (block : UnitBlock) (later : Stretch) → IsBlock tab_len width block later → AreSegments (units_of block)
     → AreSegments (rows_of block) × (concat (rows_of block) ≡ concat (units_of block))
 AreSegments-block tab_len width (shared stretch) later is p =
     let nonempty : 0 < length stretch = omega (arith, ap length is.0.stretch_is, length-append is.0.front (is.0.last ∷ [])) in
@@ -98,7 +98,7 @@ AreSegments-block tab_len width (shared stretch) later is p =
 AreSegments-block tab_len width (split unit rows) later is p =
     (AreSegments-glyphs tab_len width unit rows p.0.utf8 is.1, concat-glyphs tab_len width unit rows p.0.utf8 is.1 ∙ sym (append-nil unit))
 
-AreSegments-blocks : (tab_len width : ℕ) (blocks : List UnitBlock) (later : Stretch) → AreBlocks tab_len width blocks later → AreSegments (flat_map units_of blocks)
+pub AreSegments-blocks : (tab_len width : ℕ) (blocks : List UnitBlock) (later : Stretch) → AreBlocks tab_len width blocks later → AreSegments (flat_map units_of blocks)
     → AreSegments (flat_map rows_of blocks) × (concat (flat_map rows_of blocks) ≡ concat (flat_map units_of blocks))
 AreSegments-blocks tab_len width [] later are p = (tt, refl)
 AreSegments-blocks tab_len width (block ∷ blocks) later are p =

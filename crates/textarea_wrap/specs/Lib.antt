@@ -3,6 +3,7 @@ pub mod WrapRules
 pub mod Fitting
 pub mod Marks
 pub mod Metrics
+pub mod Partings
 pub mod Units
 pub mod WordWalk
 pub mod WrapResult

@@ -9,7 +9,7 @@ pub use Rattle.std.specs.Str.Iter.{chars_rest}
 pub use Rattle.textarea_util.specs.Limit.{size_limit}
 pub use Rattle.textarea_wrap.specs.Columns.{IsVisible, IsVisibleCount, column_after, end_column, next_stop, plain_width, stretch_width}
 pub use Rattle.textarea_wrap.specs.Fitting.{AreFittingClusters, HasFittingClusters, IsFittingCluster, full_width}
-pub use Rattle.textarea_wrap.specs.Marks.{mark_at, range_count}
+pub use Rattle.textarea_wrap.specs.Marks.{AreMarkedUntil, mark_at, range_count}
 unfoldable pub use Rattle.textarea_wrap.specs.Marks.{marks_of}
 pub use Rattle.textarea_wrap.specs.Metrics.{columns_for_rows, line_number_columns}
 pub use Rattle.textarea_wrap.specs.RowsView.{RowsView}

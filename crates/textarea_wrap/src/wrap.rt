@@ -4,7 +4,8 @@ ghost use Rattle.textarea_wrap.specs.Prelude.{size_limit, marks_of, HasFewestRow
 
 use self::columns::fits_width;
 use self::glyphs::push_glyph_rows;
-use self::marks::push_marks;
+use self::kept::{kept_count, rewrap, same_start};
+use self::marks::{push_marks, push_marks_after};
 use self::units::collect_units;
 use self::words::push_word_rows;
 pub use crate::count::WrapCount;
@@ -16,6 +17,7 @@ use textarea_util::limit::MAX_SIZE;
 
 pub mod columns;
 mod glyphs;
+mod kept;
 mod marks;
 mod units;
 mod words;
@@ -78,6 +80,66 @@ pub fn line_ranges(
 {
     let wrapped = wrap_and_mark(alloc, line, mode, width.max(1), tab_len);
     Rows::counted(wrapped, count)
+}
+
+/// Wraps a line after an edit, and returns the rows that `line_ranges` returns. `old` has the rows of
+/// the line before the edit, which was `old_line`, in the same mode, at the same width and tab
+/// length. Rows that the edit doesn't change are copied, and only the text after them is wrapped.
+pub fn line_ranges_after(
+    alloc: Global,
+    line: &str,
+    mode: WrapMode,
+    width: usize,
+    tab_len: u8,
+    old_line: &str,
+    old: &Rows,
+    count: &mut WrapCount,
+) -> Result<Rows, AllocError>
+    requires old_rows { IsWrapped mode tab_len (max width 1) old_line.now old.now.ranges }
+    requires old_marks { old.now.marks ≡ marks_of old_line.now old.now.ranges }
+    ensures counted { count.new ≡ count.old + 1 }
+    ensures tick { IfOk result (λ rows. rows.tick ≡ count.new) }
+    ensures rows { IfOk result (λ rows. IsWrapped mode tab_len (max width 1) line.now rows.ranges) }
+    ensures marks { IfOk result (λ rows. rows.marks ≡ marks_of line.now rows.ranges) }
+    ensures fewest { 0 < length line.now
+        → IfOk result
+        (λ rows. HasFewestRows mode tab_len (max width 1) line.now (length rows.ranges)) }
+    ensures short { OnOk result (length line.now < size_limit) }
+    ensures one_row { length line.now < size_limit → TakesOneRow mode tab_len (max width 1) line.now
+        → IsOk result }
+{
+    let wrapped = rewrap_and_mark(alloc, line, mode, width.max(1), tab_len, old_line, old);
+    Rows::counted(wrapped, count)
+}
+
+// Returns the same as `wrap_and_mark`, with the rows that the edit doesn't change copied.
+fn rewrap_and_mark(
+    alloc: Global,
+    line: &str,
+    mode: WrapMode,
+    width: usize,
+    tab_len: u8,
+    old_line: &str,
+    old: &Rows,
+) -> Result<Ranges, AllocError>
+    requires old_rows { IsWrapped mode tab_len width old_line.now old.now.ranges }
+    requires old_marks { old.now.marks ≡ marks_of old_line.now old.now.ranges }
+    ensures rows { IfOk result (λ items. (ranges : List (ℕ × ℕ))
+        × IsWrapped mode tab_len width line.now ranges
+        × (items.items ≡ ranges ++ marks_of line.now ranges)) }
+    ensures short { OnOk result (length line.now < size_limit) }
+    ensures one_row { length line.now < size_limit → TakesOneRow mode tab_len width line.now
+        → IsOk result }
+{
+    let rows = old.as_slice();
+    let same = same_start(old_line, line);
+    let kept = kept_count(line, rows, mode, same);
+    if kept == 0 || !is_short(old_line) || !is_short(line) || fits_width(line, width, tab_len) {
+        return wrap_and_mark(alloc, line, mode, width, tab_len);
+    }
+    let mut ranges = rewrap(alloc, line, mode, width, tab_len, old_line, rows, kept)?;
+    push_marks_after(&mut ranges, line, &old.marks()[..kept / 8])?;
+    Ok(ranges)
 }
 
 // Returns the ranges of the line's rows, and after them the marks.

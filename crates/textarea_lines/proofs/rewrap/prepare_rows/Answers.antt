@@ -6,6 +6,7 @@ use Rattle.textarea_screen_map.proofs.Layouts.{length-AreRowsOf}
 use Rattle.textarea_lines.specs.Wrappings.{is_same_wrapping, wrapping_for}
 use Rattle.textarea_lines.specs.TextLayout.{count_after}
 use Rattle.textarea_lines.proofs.Preparing.{all_ready, some_ready}
+use Rattle.textarea_lines.proofs.SameWraps.{AreRowsOf-same}
 use Rattle.textarea_lines.proofs.rewrap.prepare_rows.Goals as goal
 use Rattle.textarea_lines.proofs.rewrap.prepare_rows.Goals.{After-is_same}
 
@@ -18,8 +19,9 @@ after c = c.wrapping_for-after.ensures ∙ ap (λ n. wrapping_for c.args.setting
 test : (c : After-is_same) → is_same_wrapping c.wrapping_for-after.result c.args.map.now.wrapping ≡ c.is_same.result
 test c = ap (is_same_wrapping c.wrapping_for-after.result) (sym c.wrapping-before.ensures) ∙ sym c.is_same.ensures
 
-pub prepare-requires : goal.prepare-requires
-prepare-requires c = omega (arith, c.requires.within, long (goal.at.prepare-requires c).After-is_same)
+pub prepare_lines-requires-clause-rows : goal.prepare_lines-requires-clause-rows
+prepare_lines-requires-clause-rows c =
+    AreRowsOf-same c.wrapping_for-after.result c.args.map.now.wrapping (lines_of c.args.lines.now) c.args.map.now.rows (test (goal.at.prepare_lines-requires-clause-rows c).After-is_same ∙ c.if-is_same.true) c.requires.rows
 
 pub make_room-requires : goal.make_room-requires
 make_room-requires c = omega (arith, long (goal.at.make_room-requires c).After-is_same)

@@ -1,10 +1,6 @@
-use Rattle.std.proofs.Common.{◌≡◌, ◌∙◌, ℕ, List, ap, length, subst, sym}
-use Rattle.textarea_text.specs.Text.{lines, lines_of}
-use Rattle.textarea_screen_map.specs.Map.{IsRowCount}
-use Rattle.textarea_lines.specs.TextLayout.{TextAndLayout}
+use Rattle.std.proofs.Common.{◌∙◌, ap, length, sym}
 use Rattle.textarea_lines.specs.Wrappings.{wrapping_for}
 use Rattle.textarea_lines.proofs.Measuring.{Measuring, counted_from_scratch, counted_as_cached, counted_as_measured, counted_in_text, same_as_cached}
-use Rattle.textarea_lines.proofs.Stores.{lines_stored}
 use Rattle.textarea_lines.proofs.text_layout.TextLayout.rows_at_width.Goals as goal
 use Rattle.textarea_lines.proofs.text_layout.TextLayout.rows_at_width.Goals.{After-wrapping}
 

@@ -1,7 +1,7 @@
 use Rattle.std.proofs.Common.{◌<◌, ◌≤◌, arith, length, subst}
 use Rattle.std.proofs.lemmas.List.{length-map}
 use Rattle.textarea_util.specs.Limit.{size_limit}
-use Rattle.textarea_text.specs.Text.{characters_of, lines_of}
+use Rattle.textarea_text.specs.Text.{characters_of}
 use Rattle.textarea_blocks.specs.Sums.{size_total}
 use Rattle.textarea_screen_map.specs.Map.{MapView}
 use Rattle.textarea_screen_map.proofs.RowSizes.{lent_rows}
