@@ -19,7 +19,7 @@ use Rattle.textarea_screen.proofs.ChangeLemmas.{Changes-as}
 use Rattle.textarea_paint.specs.Cells.{IsColumnWithin, IsPenAt, is_room_at, place_from, placed_at, row_change}
 use Rattle.textarea_paint.specs.Clusters.{Cluster, in_style, letter_clusters}
 use Rattle.textarea_paint.specs.Columns.{columns_of}
-use Rattle.textarea_paint.specs.Walk.{IsWalk}
+use Rattle.textarea_paint.specs.Walk.{IsPartlyDrawn}
 use Rattle.textarea_paint.specs.Letters.{AreLetters, IsLetter}
 use Rattle.textarea_paint.specs.Row.{clusters_width}
 use Rattle.textarea_paint.specs.declared.paint.cells.Pen.{Pen}
@@ -137,7 +137,7 @@ fewer-put {from} {row} {to} {columns} {column} {style} {text} {rest} utf8 some r
 -- letters that are put are a walk
 pub walk-put : {cells : RowCells} {style : Style} {columns column to : ℕ} {pen : Pen} {text rest : List ℕ} {old new : Buffer} → IsUtf8 text → AreLetters columns text →
     pen.hidden ≡ 0 → IsColumnWithin cells pen.x → to ≤ cells.x + cells.width → ArePut pen.x cells.y to columns style text rest column old new →
-    IsWalk cells pen (pen_at column) (letter_clusters style text) (letter_clusters style rest) old new
+    IsPartlyDrawn cells pen (pen_at column) (letter_clusters style text) (letter_clusters style rest) old new
 walk-put {cells} {style} {columns} {column} {to} {pen} {text} {rest} {old} {new} utf8 letters hidden within room put =
     let none : pen ≡ pen_at pen.x = ap (λ n. record { hidden = n; x = pen.x }) hidden in
     let split = split_all (IsLetter columns) put.front (chars rest) (subst (AllByRecursion (IsLetter columns)) put.parts letters) in

@@ -32,8 +32,8 @@ use Rattle.unicode_width.proofs.Computing.{unicode_width}
 use Rattle.unicode_width.proofs.KindLemmas.{kind_stepped}
 use Rattle.textarea_paint.specs.Columns.{char_columns, columns_of}
 use Rattle.textarea_paint.specs.Simple.{begins_apart, is_flag_half, is_simple, late_ranges}
-use Rattle.textarea_paint.specs.Units.{AreUnits, AreUnitsBetween, BeginsWithHalf, BeginsWithJoined, BeginsWithPicture, BeginsWithSized, BeginsWithUnit, IsAfterUnits, IsSized, IsTail, IsUnit, IsUnitFront}
-use Rattle.textarea_paint.specs.Units.{are_joined, early_marks, in_line, is_mark, is_modifier, late_marks, narrow_pictures, picture_columns, wide_pictures}
+use Rattle.textarea_paint.specs.Units.{AreUnits, AreUnitsBetween, BeginsWithHalf, BeginsWithJoined, BeginsWithPicture, BeginsWithSized, BeginsWithUnit, IsAfterUnits, IsUnitOfSize, IsTail, IsUnit, IsUnitFront}
+use Rattle.textarea_paint.specs.Units.{are_joined, early_marks, one_after_another, is_mark, is_modifier, late_marks, narrow_pictures, picture_columns, wide_pictures}
 use Rattle.textarea_paint.proofs.LetterLemmas.{chars-letters, columns_alone, either, front_scalars, if_letter, if_wide, is_two, then_holds, two_columns}
 use Rattle.textarea_paint.proofs.PlainLemmas.{cut-anew, is_single, no_pair, single-regional}
 use Rattle.textarea_paint.proofs.PrintableLemmas.{graphemes-nil}
@@ -309,21 +309,21 @@ one-extend m is = either ((columns : ℕ) × IsExtend columns m) (is_mark m) (is
 -- a character and all that joins it are a cluster
 cut-open : (first : ℕ) (joined : List (List ℕ)) → AllByRecursion (λ cs. are_joined first cs ≡ true) joined → (last : ℕ) (before : List ℕ) →
     IsOpen (nat_lt 0 (picture_columns first)) last before → (cs : List ℕ) → begins_apart cs ≡ true →
-    cut (is_grapheme_break true) before (last ∷ in_line joined ++ cs) [] ≡ (last ∷ in_line joined) ∷ cut (is_grapheme_break true) [] cs []
+    cut (is_grapheme_break true) before (last ∷ one_after_another joined ++ cs) [] ≡ (last ∷ one_after_another joined) ∷ cut (is_grapheme_break true) [] cs []
 unfolding cut
 cut-open first [] all last before still cs apart = cut-closed still cs apart
 cut-open first ([] ∷ joined) all last before still cs apart = absurd (false≢true all.0)
 cut-open first ((m ∷ []) ∷ joined) all last before still cs apart =
     let is = one-extend m all.0 in
-    cond-false _ _ _ (extend-joins still is.0 m ((in_line joined ++ cs) ++ []) is.1)
+    cond-false _ _ _ (extend-joins still is.0 m ((one_after_another joined ++ cs) ++ []) is.1)
     ∙ ap (prepend (last ∷ [])) (cut-open first joined all.1 m (last ∷ before) (open-extend is.0 m still is.1) cs apart)
 cut-open first ((z ∷ p ∷ []) ∷ joined) all last before still cs apart =
     let are = joiner-from first z p all.0 in
     let picture = picture-is p are.second in
     let inner = open-simple (nat_lt 0 (picture_columns first)) p (z ∷ last ∷ before) picture.simple (λ is. picture.pictographic) in
-    cond-false _ _ _ (joiner-joins still z ((p ∷ in_line joined ++ cs) ++ []) are.joiner)
+    cond-false _ _ _ (joiner-joins still z ((p ∷ one_after_another joined ++ cs) ++ []) are.joiner)
     ∙ ap (prepend (last ∷ []))
-    (cond-false _ _ _ (picture-joins still z p (picture_columns p) ((in_line joined ++ cs) ++ []) are.joiner are.first picture)
+    (cond-false _ _ _ (picture-joins still z p (picture_columns p) ((one_after_another joined ++ cs) ++ []) are.joiner are.first picture)
     ∙ ap (prepend (z ∷ [])) (cut-open first joined all.1 p (z ∷ last ∷ before) inner cs apart))
 cut-open first ((a ∷ b ∷ c ∷ others) ∷ joined) all last before still cs apart = absurd (false≢true all.0)
 
@@ -390,14 +390,14 @@ tail-next {first} {columns} {more} {total} {rest} {after} {end} b t = record {
   joined = b.joined ∷ t.joined;
   parts =
       b.parts ∙ ap (λ (x : List ℕ). encode_utf8_all b.joined ++ x) t.parts
-      ∙ sym (append_assoc (encode_utf8_all b.joined) (encode_utf8_all (in_line t.joined)) end)
-      ∙ ap (λ (x : List ℕ). x ++ end) (sym (encode-append b.joined (in_line t.joined)));
+      ∙ sym (append_assoc (encode_utf8_all b.joined) (encode_utf8_all (one_after_another t.joined)) end)
+      ∙ ap (λ (x : List ℕ). x ++ end) (sym (encode-append b.joined (one_after_another t.joined)));
   joins = (b.joins, t.joins);
-  width = omega (arith, sum_by-append char_columns b.joined (in_line t.joined), b.width, t.width);
+  width = omega (arith, sum_by-append char_columns b.joined (one_after_another t.joined), b.width, t.width);
 }
 
 -- no control character joins
-visible : (first : ℕ) (joined : List (List ℕ)) → AllByRecursion (λ cs. are_joined first cs ≡ true) joined → list_any is_control (in_line joined) ≡ false
+visible : (first : ℕ) (joined : List (List ℕ)) → AllByRecursion (λ cs. are_joined first cs ≡ true) joined → list_any is_control (one_after_another joined) ≡ false
 visible first [] all = refl
 visible first ([] ∷ joined) all = absurd (false≢true all.0)
 visible first ((m ∷ []) ∷ joined) all =
@@ -419,9 +419,9 @@ front-columns cs text after utf8 parts plain =
 pub unit-joined : (text rest after : List ℕ) (first total : ℕ) → IsUtf8 text → text ≡ encode_utf8 first ++ rest → is_simple first ≡ true → IsTail first (char_columns first) rest after total →
     BeginsWithUnit total text after
 unit-joined text rest after first total utf8 is simple t =
-    let unit = first ∷ in_line t.joined in
+    let unit = first ∷ one_after_another t.joined in
     let parts : text ≡ encode_utf8_all unit ++ after =
-    is ∙ ap (λ (x : List ℕ). encode_utf8 first ++ x) t.parts ∙ sym (append_assoc (encode_utf8 first) (encode_utf8_all (in_line t.joined)) after) in
+    is ∙ ap (λ (x : List ℕ). encode_utf8 first ++ x) t.parts ∙ sym (append_assoc (encode_utf8 first) (encode_utf8_all (one_after_another t.joined)) after) in
     let plain : list_any is_control unit ≡ false =
     ap₂ (λ (x : Bool) (y : Bool). x || y) (single-visible first (simple-apart first simple).single) (visible first t.joined t.joins) in
     record {
@@ -432,7 +432,7 @@ unit-joined text rest after first total utf8 is simple t =
         alone = λ cs apart.
             cut-open first t.joined t.joins first []
             (open-simple (nat_lt 0 (picture_columns first)) first [] simple (λ some. (picture-is first (is_some _ some)).pictographic)) cs apart;
-        width = front-columns unit text after utf8 parts plain ∙ sum_by-cons char_columns first (in_line t.joined) ∙ t.width;
+        width = front-columns unit text after utf8 parts plain ∙ sum_by-cons char_columns first (one_after_another t.joined) ∙ t.width;
       };
     }
 
@@ -477,8 +477,8 @@ one_more {text = text} {rest = rest} {after = after} begins between = record {
   units = begins.unit ∷ between.units;
   parts =
       begins.parts ∙ ap (λ (t : List ℕ). encode_utf8_all begins.unit ++ t) between.parts
-      ∙ sym (append_assoc (encode_utf8_all begins.unit) (encode_utf8_all (in_line between.units)) after)
-      ∙ ap (λ (t : List ℕ). t ++ after) (sym (encode-append begins.unit (in_line between.units)));
+      ∙ sym (append_assoc (encode_utf8_all begins.unit) (encode_utf8_all (one_after_another between.units)) after)
+      ∙ ap (λ (t : List ℕ). t ++ after) (sym (encode-append begins.unit (one_after_another between.units)));
   are_units = (begins.is_unit, between.are_units);
   few = omega (arith, between.few);
   apart = between.apart;
@@ -509,30 +509,30 @@ sized-apart {text = text} {after = after} utf8 b = ap begins_apart (chars-letter
 -- ---- the clusters
 
 module _ (columns bytes : ℕ) (cs : List ℕ) (apart : begins_apart cs ≡ true) where
-  units-apart : (units : List (List ℕ)) → AllByRecursion (IsSized columns bytes) units → begins_apart (in_line units ++ cs) ≡ true
+  units-apart : (units : List (List ℕ)) → AllByRecursion (IsUnitOfSize columns bytes) units → begins_apart (one_after_another units ++ cs) ≡ true
   units-apart [] all = apart
-  units-apart (u ∷ units) all = ap begins_apart (append_assoc u (in_line units) cs) ∙ all.0.0.begins (in_line units ++ cs)
+  units-apart (u ∷ units) all = ap begins_apart (append_assoc u (one_after_another units) cs) ∙ all.0.0.begins (one_after_another units ++ cs)
 
-  cut-units : (units : List (List ℕ)) → AllByRecursion (IsSized columns bytes) units → cut (is_grapheme_break true) [] (in_line units ++ cs) [] ≡ units ++ cut (is_grapheme_break true) [] cs []
+  cut-units : (units : List (List ℕ)) → AllByRecursion (IsUnitOfSize columns bytes) units → cut (is_grapheme_break true) [] (one_after_another units ++ cs) [] ≡ units ++ cut (is_grapheme_break true) [] cs []
   cut-units [] all = refl
   cut-units (u ∷ units) all =
-      ap (λ ds. cut (is_grapheme_break true) [] ds []) (append_assoc u (in_line units) cs)
-      ∙ all.0.0.alone (in_line units ++ cs) (units-apart units all.1)
+      ap (λ ds. cut (is_grapheme_break true) [] ds []) (append_assoc u (one_after_another units) cs)
+      ∙ all.0.0.alone (one_after_another units ++ cs) (units-apart units all.1)
       ∙ ap (λ (pieces : List (List ℕ)). u ∷ pieces) (cut-units units all.1)
 
-graphemes-units : (columns bytes : ℕ) (units : List (List ℕ)) (text after : List ℕ) → AllByRecursion (IsSized columns bytes) units → IsUtf8 text → text ≡ encode_utf8_all (in_line units) ++ after →
+graphemes-units : (columns bytes : ℕ) (units : List (List ℕ)) (text after : List ℕ) → AllByRecursion (IsUnitOfSize columns bytes) units → IsUtf8 text → text ≡ encode_utf8_all (one_after_another units) ++ after →
     begins_apart (chars after) ≡ true → graphemes true text ≡ map encode_utf8_all units ++ graphemes true after
 unfolding segments
 graphemes-units columns bytes units text after all utf8 parts apart =
-    ap (λ cs. map encode_utf8_all (cut (is_grapheme_break true) [] cs [])) (chars-letters (in_line units) text after utf8 parts)
+    ap (λ cs. map encode_utf8_all (cut (is_grapheme_break true) [] cs [])) (chars-letters (one_after_another units) text after utf8 parts)
     ∙ ap (map encode_utf8_all) (cut-units columns bytes (chars after) apart units all)
     ∙ map-append encode_utf8_all units (cut (is_grapheme_break true) [] (chars after) [])
 
 -- the clusters of a text of units
-pub graphemes-all : (columns bytes : ℕ) (units : List (List ℕ)) (text : List ℕ) → AllByRecursion (IsSized columns bytes) units → IsUtf8 text → text ≡ encode_utf8_all (in_line units) →
+pub graphemes-all : (columns bytes : ℕ) (units : List (List ℕ)) (text : List ℕ) → AllByRecursion (IsUnitOfSize columns bytes) units → IsUtf8 text → text ≡ encode_utf8_all (one_after_another units) →
     graphemes true text ≡ map encode_utf8_all units
 graphemes-all columns bytes units text all utf8 parts =
-    graphemes-units columns bytes units text [] all utf8 (parts ∙ sym (append-nil (encode_utf8_all (in_line units)))) (ap begins_apart chars-nil)
+    graphemes-units columns bytes units text [] all utf8 (parts ∙ sym (append-nil (encode_utf8_all (one_after_another units)))) (ap begins_apart chars-nil)
     ∙ ap (λ (gs : List (List ℕ)). map encode_utf8_all units ++ gs) graphemes-nil ∙ append-nil (map encode_utf8_all units)
 
 -- ---- a text that is split after its units
@@ -543,7 +543,7 @@ front-utf8 cs text after utf8 parts = (cs, (front_scalars cs (chars after) (ap a
 pub unit-front : {columns bytes most : ℕ} {text after : List ℕ} → AreUnitsBetween columns bytes most text after → length after < length text → (front back : List ℕ) →
     front ≡ take (length text - length after) text → back ≡ drop (length text - length after) text → IsUnitFront most columns bytes text front back
 unit-front {columns} {bytes} {most} {text} {after} b less front back front_is back_is =
-    let bytes_of = encode_utf8_all (in_line b.units) in
+    let bytes_of = encode_utf8_all (one_after_another b.units) in
     let same : length text - length after ≡ length bytes_of = omega (arith, ap length b.parts, length-append bytes_of after) in
     let taken : take (length text - length after) text ≡ bytes_of = ap₂ (λ (n : ℕ) (t : List ℕ). take n t) same b.parts ∙ take-append_seam bytes_of after in
     let dropped : drop (length text - length after) text ≡ after = ap₂ (λ (n : ℕ) (t : List ℕ). drop n t) same b.parts ∙ drop-append_seam bytes_of after in
@@ -557,7 +557,7 @@ unit-front {columns} {bytes} {most} {text} {after} b less front back front_is ba
       apart = ap (λ (t : List ℕ). begins_apart (chars t)) (back_is ∙ dropped) ∙ b.apart;
     }
   where
-    some : (units : List (List ℕ)) → text ≡ encode_utf8_all (in_line units) ++ after → 0 < length units
+    some : (units : List (List ℕ)) → text ≡ encode_utf8_all (one_after_another units) ++ after → 0 < length units
     some [] parts = absurd (omega (arith, ap length parts, less))
     some (u ∷ units) parts = omega arith
 
@@ -565,7 +565,7 @@ module _ {most columns bytes : ℕ} {text front after : List ℕ} (utf8 : IsUtf8
   front-graphemes : graphemes true front ≡ map encode_utf8_all f.units
   front-graphemes =
       graphemes-all columns bytes f.units front f.are_units
-      (subst IsUtf8 (sym f.front_is) (front-utf8 (in_line f.units) text after utf8 f.parts)) f.front_is
+      (subst IsUtf8 (sym f.front_is) (front-utf8 (one_after_another f.units) text after utf8 f.parts)) f.front_is
 
   pub front-clusters : graphemes true text ≡ graphemes true front ++ graphemes true after
   front-clusters =
@@ -584,7 +584,7 @@ module _ {most columns bytes : ℕ} {text front after : List ℕ} (utf8 : IsUtf8
   pub front-most : length (graphemes true front) ≤ most
   front-most = omega (arith, front-count, f.few)
 
-  one_text : (units : List (List ℕ)) → length units ≤ 1 → 0 < length units → map encode_utf8_all units ≡ encode_utf8_all (in_line units) ∷ []
+  one_text : (units : List (List ℕ)) → length units ≤ 1 → 0 < length units → map encode_utf8_all units ≡ encode_utf8_all (one_after_another units) ∷ []
   one_text [] few some = absurd (omega (arith, some))
   one_text (u ∷ []) few some = ap (λ (t : List ℕ). encode_utf8_all t ∷ []) (sym (append-nil u))
   one_text (u ∷ v ∷ units) few some = absurd (omega (arith, few))
@@ -616,17 +616,17 @@ some_bytes (c ∷ cs) columns is = omega (arith, length-append (encode_utf8 c) (
 pub first-unit : (columns bytes : ℕ) (text : List ℕ) → IsUtf8 text → 0 < length text → AreUnits columns bytes text → IsFirstUnit columns bytes text (take bytes text) (drop bytes text)
 first-unit columns bytes text utf8 some are = by are.units are.parts are.are_units
   where
-    by : (units : List (List ℕ)) → text ≡ encode_utf8_all (in_line units) → AllByRecursion (IsSized columns bytes) units → IsFirstUnit columns bytes text (take bytes text) (drop bytes text)
+    by : (units : List (List ℕ)) → text ≡ encode_utf8_all (one_after_another units) → AllByRecursion (IsUnitOfSize columns bytes) units → IsFirstUnit columns bytes text (take bytes text) (drop bytes text)
     by [] parts all = absurd (omega (arith, ap length parts, some))
     by (u ∷ units) parts all =
         let front = encode_utf8_all u in
-        let back = encode_utf8_all (in_line units) in
-        let seam : text ≡ front ++ back = parts ∙ encode-append u (in_line units) in
+        let back = encode_utf8_all (one_after_another units) in
+        let seam : text ≡ front ++ back = parts ∙ encode-append u (one_after_another units) in
         let taken : take bytes text ≡ front = ap₂ (λ (n : ℕ) (t : List ℕ). take n t) (sym all.0.1) seam ∙ take-append_seam front back in
         let dropped : drop bytes text ≡ back = ap₂ (λ (n : ℕ) (t : List ℕ). drop n t) (sym all.0.1) seam ∙ drop-append_seam front back in
-        let scalars : all_scalars (u ++ in_line units) ≡ true =
-        front_scalars (u ++ in_line units) (chars []) (ap all_scalars (sym (chars-letters (u ++ in_line units) text [] utf8 (parts ∙ sym (append-nil (encode_utf8_all (u ++ in_line units)))))) ∙ scalars-chars text utf8) in
-        let back_utf8 : IsUtf8 back = (in_line units, (later_scalars u (in_line units) scalars, refl)) in
+        let scalars : all_scalars (u ++ one_after_another units) ≡ true =
+        front_scalars (u ++ one_after_another units) (chars []) (ap all_scalars (sym (chars-letters (u ++ one_after_another units) text [] utf8 (parts ∙ sym (append-nil (encode_utf8_all (u ++ one_after_another units)))))) ∙ scalars-chars text utf8) in
+        let back_utf8 : IsUtf8 back = (one_after_another units, (later_scalars u (one_after_another units) scalars, refl)) in
         let size = length-append front back in
         record {
           clusters =

@@ -13,7 +13,7 @@ use Rattle.textarea_screen.proofs.ChangeLemmas.{Changes-none, Changes-then, Keep
 use Rattle.textarea_paint.specs.Cells.{IsAnyPen, IsColumnWithin, IsPenAt, is_in_cells, place_from, placed_at, row_change}
 use Rattle.textarea_paint.specs.Clusters.{AreInline, Cluster, in_style, letter_clusters}
 use Rattle.textarea_paint.specs.Columns.{columns_of}
-use Rattle.textarea_paint.specs.Walk.{IsWalk}
+use Rattle.textarea_paint.specs.Walk.{IsPartlyDrawn}
 use Rattle.textarea_paint.specs.Letters.{AreLetters, IsFirstLetter, IsLetter}
 use Rattle.textarea_paint.specs.Row.{clusters_width}
 use Rattle.textarea_paint.specs.declared.paint.cells.Pen.{Pen}
@@ -23,7 +23,7 @@ use Rattle.textarea_paint.proofs.ClusterLemmas.{AreInline-after}
 use Rattle.textarea_paint.proofs.PartLemmas.{clusters_width-append}
 use Rattle.textarea_paint.proofs.RowLemmas.{row_change-append}
 
-pub walk-start : (cells : RowCells) (start : Pen) (all : List Cluster) (buffer : Buffer) → IsColumnWithin cells start.x → IsWalk cells start start all all buffer buffer
+pub walk-start : (cells : RowCells) (start : Pen) (all : List Cluster) (buffer : Buffer) → IsColumnWithin cells start.x → IsPartlyDrawn cells start start all all buffer buffer
 walk-start cells start all buffer within = record {
   front = [];
   parts = refl;
@@ -34,10 +34,10 @@ walk-start cells start all buffer within = record {
 
 -- one cluster more
 pub walk-next : {cells : RowCells} {start pen moved : Pen} {all rest after : List Cluster} {old now next : Buffer} (cluster : Cluster) →
-    IsWalk cells start pen all rest old now → rest ≡ cluster ∷ after →
+    IsPartlyDrawn cells start pen all rest old now → rest ≡ cluster ∷ after →
     ((left column : ℕ) → IsPenAt cells left column pen → IsPenAt cells left (column + columns_of cluster.text) moved) →
     ((left column : ℕ) → IsPenAt cells left column pen → Changes now next (row_change cells left (placed_at column cluster ∷ []))) →
-    IsColumnWithin cells moved.x → IsWalk cells start moved all after old next
+    IsColumnWithin cells moved.x → IsPartlyDrawn cells start moved all after old next
 walk-next {cells} {start} {pen} {moved} {all} {rest} {after} {old} {now} {next} cluster walk first moves draws within =
     let width : clusters_width (walk.front ++ cluster ∷ []) ≡ clusters_width walk.front + columns_of cluster.text =
     omega (arith, clusters_width-append walk.front (cluster ∷ []), sum_by-cons (λ (c : Cluster). columns_of c.text) cluster []) in
@@ -56,7 +56,7 @@ walk-next {cells} {start} {pen} {moved} {all} {rest} {after} {old} {now} {next} 
 
 -- a walk, and then another one
 pub walk-then : {cells : RowCells} {start pen moved : Pen} {all rest after : List Cluster} {old now next : Buffer} →
-    IsWalk cells start pen all rest old now → IsWalk cells pen moved rest after now next → IsWalk cells start moved all after old next
+    IsPartlyDrawn cells start pen all rest old now → IsPartlyDrawn cells pen moved rest after now next → IsPartlyDrawn cells start moved all after old next
 walk-then {cells} {start} {pen} {moved} {all} {rest} {after} {old} {now} {next} first second =
     let front = first.front ++ second.front in
     let width : clusters_width front ≡ clusters_width first.front + clusters_width second.front = clusters_width-append first.front second.front in
@@ -74,15 +74,15 @@ walk-then {cells} {start} {pen} {moved} {all} {rest} {after} {old} {now} {next} 
     }
 
 -- the pen is at some column of a row also after a walk
-pub walk-any : {cells : RowCells} {start pen : Pen} {all rest : List Cluster} {old now : Buffer} → IsWalk cells start pen all rest old now → IsAnyPen cells start → IsAnyPen cells pen
+pub walk-any : {cells : RowCells} {start pen : Pen} {all rest : List Cluster} {old now : Buffer} → IsPartlyDrawn cells start pen all rest old now → IsAnyPen cells start → IsAnyPen cells pen
 walk-any walk any = (any.0, any.1 + clusters_width walk.front, walk.at any.0 any.1 any.2)
 
 -- all clusters are drawn
-pub walk-all : {cells : RowCells} {start pen : Pen} {all rest : List Cluster} {old now : Buffer} → (walk : IsWalk cells start pen all rest old now) → rest ≡ [] → walk.front ≡ all
+pub walk-all : {cells : RowCells} {start pen : Pen} {all rest : List Cluster} {old now : Buffer} → (walk : IsPartlyDrawn cells start pen all rest old now) → rest ≡ [] → walk.front ≡ all
 walk-all walk none = sym (walk.parts ∙ ap (λ (cs : List Cluster). walk.front ++ cs) none ∙ append-nil walk.front)
 
 -- those that are left are short too
-pub walk-short : {cells : RowCells} {start pen : Pen} {all rest : List Cluster} {old now : Buffer} → IsWalk cells start pen all rest old now → AreInline all → AreInline rest
+pub walk-short : {cells : RowCells} {start pen : Pen} {all rest : List Cluster} {old now : Buffer} → IsPartlyDrawn cells start pen all rest old now → AreInline all → AreInline rest
 walk-short {rest = rest} walk short = AreInline-after walk.front rest walk.parts short
 
 -- a text that isn't empty has a byte
@@ -95,7 +95,7 @@ on_err (Ok value) holds = tt
 on_err (Err error) holds = holds
 
 -- cells outside of the row are unchanged
-pub walk-outside : {cells : RowCells} {start pen : Pen} {all rest : List Cluster} {old now : Buffer} → IsWalk cells start pen all rest old now → IsAnyPen cells start → KeepsOutside (is_in_cells cells) old now
+pub walk-outside : {cells : RowCells} {start pen : Pen} {all rest : List Cluster} {old now : Buffer} → IsPartlyDrawn cells start pen all rest old now → IsAnyPen cells start → KeepsOutside (is_in_cells cells) old now
 walk-outside {cells} walk any =
     KeepsOutside-from_changes (is_in_cells cells) (walk.drawn any.0 any.1 any.2)
     (λ x y cell outside. row_change-outside cells any.0 (place_from any.1 walk.front) x y cell outside)

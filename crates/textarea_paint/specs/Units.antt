@@ -51,8 +51,8 @@ pub record IsUnit (columns : ℕ) (unit : List ℕ) : Type 0 where
   pub width : columns_of (encode_utf8_all unit) ≡ columns
 
 -- it has this number of bytes
-abbrev pub IsSized : ℕ → ℕ → List ℕ → Type 0
-IsSized columns bytes unit = IsUnit columns unit × (length (encode_utf8_all unit) ≡ bytes)
+abbrev pub IsUnitOfSize : ℕ → ℕ → List ℕ → Type 0
+IsUnitOfSize columns bytes unit = IsUnit columns unit × (length (encode_utf8_all unit) ≡ bytes)
 
 -- the text begins with a unit, after which this text follows
 pub record BeginsWithUnit (columns : ℕ) (text after : List ℕ) : Type 0 where
@@ -63,7 +63,7 @@ pub record BeginsWithUnit (columns : ℕ) (text after : List ℕ) : Type 0 where
 pub record BeginsWithSized (columns bytes : ℕ) (text after : List ℕ) : Type 0 where
   pub unit : List ℕ
   pub parts : text ≡ encode_utf8_all unit ++ after
-  pub is_unit : IsSized columns bytes unit
+  pub is_unit : IsUnitOfSize columns bytes unit
 
 -- ---- what joins a character
 
@@ -95,31 +95,31 @@ pub record BeginsWithJoined (first columns : ℕ) (text after : List ℕ) : Type
   pub width : sum_by char_columns joined ≡ columns
 
 -- the lists of characters one after the other
-abbrev pub in_line : List (List ℕ) → List ℕ
-in_line [] = []
-in_line (cs ∷ others) = cs ++ in_line others
+abbrev pub one_after_another : List (List ℕ) → List ℕ
+one_after_another [] = []
+one_after_another (cs ∷ others) = cs ++ one_after_another others
 
 -- the text begins with any number of such, of `total` columns with the `columns` before them
 pub record IsTail (first columns : ℕ) (text after : List ℕ) (total : ℕ) : Type 0 where
   pub joined : List (List ℕ)
-  pub parts : text ≡ encode_utf8_all (in_line joined) ++ after
+  pub parts : text ≡ encode_utf8_all (one_after_another joined) ++ after
   pub joins : AllByRecursion (λ cs. are_joined first cs ≡ true) joined
-  pub width : columns + sum_by char_columns (in_line joined) ≡ total
+  pub width : columns + sum_by char_columns (one_after_another joined) ≡ total
 
 -- ---- texts of units
 
 -- the text is units of this many columns and bytes each
 pub record AreUnits (columns bytes : ℕ) (text : List ℕ) : Type 0 where
   pub units : List (List ℕ)
-  pub parts : text ≡ encode_utf8_all (in_line units)
-  pub are_units : AllByRecursion (IsSized columns bytes) units
+  pub parts : text ≡ encode_utf8_all (one_after_another units)
+  pub are_units : AllByRecursion (IsUnitOfSize columns bytes) units
 
 -- such units, at most `most`, are between the start of a text and the text after them, and a cluster
 -- begins with that
 pub record AreUnitsBetween (columns bytes most : ℕ) (text after : List ℕ) : Type 0 where
   pub units : List (List ℕ)
-  pub parts : text ≡ encode_utf8_all (in_line units) ++ after
-  pub are_units : AllByRecursion (IsSized columns bytes) units
+  pub parts : text ≡ encode_utf8_all (one_after_another units) ++ after
+  pub are_units : AllByRecursion (IsUnitOfSize columns bytes) units
   pub few : length units ≤ most
   pub apart : begins_apart (chars after) ≡ true
 
@@ -130,9 +130,9 @@ IsAfterUnits columns bytes most text after = (after ≡ text) ⊎ AreUnitsBetwee
 -- the text is split after some such units
 pub record IsUnitFront (most columns bytes : ℕ) (text front after : List ℕ) : Type 0 where
   pub units : List (List ℕ)
-  pub front_is : front ≡ encode_utf8_all (in_line units)
-  pub parts : text ≡ encode_utf8_all (in_line units) ++ after
-  pub are_units : AllByRecursion (IsSized columns bytes) units
+  pub front_is : front ≡ encode_utf8_all (one_after_another units)
+  pub parts : text ≡ encode_utf8_all (one_after_another units) ++ after
+  pub are_units : AllByRecursion (IsUnitOfSize columns bytes) units
   pub some : 0 < length units
   pub few : length units ≤ most
   pub apart : begins_apart (chars after) ≡ true

@@ -9,7 +9,7 @@ use Rattle.textarea_paint.specs.declared.paint.cells.Pen.{Pen}
 use Rattle.textarea_paint.specs.declared.paint.cells.RowCells.{RowCells}
 
 -- those of all clusters but for the last ones, `rest`, are drawn, from the pen `start` on
-pub record IsWalk (cells : RowCells) (start pen : Pen) (all rest : List Cluster) (old now : Buffer) : Type 0 where
+pub record IsPartlyDrawn (cells : RowCells) (start pen : Pen) (all rest : List Cluster) (old now : Buffer) : Type 0 where
   pub front : List Cluster
   pub parts : all ≡ front ++ rest
   pub at : (left column : ℕ) → IsPenAt cells left column start → IsPenAt cells left (column + clusters_width front) pen

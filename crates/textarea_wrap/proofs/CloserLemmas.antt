@@ -17,7 +17,7 @@ use Rattle.unicode_segmentation.specs.Grapheme.{ends_in_linker, ends_in_pictogra
 use Rattle.unicode_segmentation.specs.Segments.{Rule}
 use Rattle.unicode_segmentation.specs.Word.{break_by_pair, is_ignored, is_regional, significant, starts_with_half_flag, joins, value_at, is_word_break}
 use Rattle.unicode_segmentation.proofs.BoolLemmas.{and-false, or-false}
-use Rattle.textarea_wrap.specs.Partings.{begins_cluster, begins_word, ends_clusters, is_closed, is_final, is_loose, parts_clusters, parts_words}
+use Rattle.textarea_wrap.specs.Partings.{begins_cluster, begins_word, ends_clusters, is_closed, joins_no_conjunct, is_loose, parts_clusters, parts_words}
 use Rattle.textarea_wrap.proofs.PartedLemmas.{IsCloser}
 
 -- ---- between units
@@ -167,7 +167,7 @@ module _ (d : ℕ) (loose : is_loose (word_break d) ≡ true) where
 
 -- ---- between clusters
 
-linker-over : (v : IndicConjunctBreak) → is_final v ≡ true → (values rest : List IndicConjunctBreak) → ends_in_linker (values ++ v ∷ rest) ≡ ends_in_linker values
+linker-over : (v : IndicConjunctBreak) → joins_no_conjunct v ≡ true → (values rest : List IndicConjunctBreak) → ends_in_linker (values ++ v ∷ rest) ≡ ends_in_linker values
 unfolding ends_in_linker
 linker-over conjunct.None h [] rest = refl
 linker-over conjunct.Consonant h [] rest = refl
@@ -229,7 +229,7 @@ no_half_flag : ends_in_half_flag [] ≡ false
 unfolding ends_in_half_flag
 no_half_flag = refl
 
-module _ (d : ℕ) (closed : is_closed (grapheme_cluster_break d) ≡ true) (final : is_final (indic_conjunct_break d) ≡ true) (no_emoji : is_extended_pictographic d ≡ false) where
+module _ (d : ℕ) (closed : is_closed (grapheme_cluster_break d) ≡ true) (final : joins_no_conjunct (indic_conjunct_break d) ≡ true) (no_emoji : is_extended_pictographic d ≡ false) where
   pictograph-over : (cs rest : List ℕ) → ends_in_pictograph (cs ++ d ∷ rest) ≡ ends_in_pictograph cs
   unfolding ends_in_pictograph
   pictograph-over [] rest =
@@ -307,7 +307,7 @@ parts_units d c h =
 pub parts_graphemes : (d c : ℕ) → parts_clusters d c ≡ true → IsPair (is_grapheme_break true) d c
 parts_graphemes d c h =
     let both = and_parts (ends_clusters d) (begins_cluster (grapheme_cluster_break c)) h in
-    let all = and_parts (is_closed (grapheme_cluster_break d) && is_final (indic_conjunct_break d)) (not (is_extended_pictographic d)) both.0 in
-    let some = and_parts (is_closed (grapheme_cluster_break d)) (is_final (indic_conjunct_break d)) all.0 in
+    let all = and_parts (is_closed (grapheme_cluster_break d) && joins_no_conjunct (indic_conjunct_break d)) (not (is_extended_pictographic d)) both.0 in
+    let some = and_parts (is_closed (grapheme_cluster_break d)) (joins_no_conjunct (indic_conjunct_break d)) all.0 in
     let no_emoji = not-true (is_extended_pictographic d) all.1 in
     record { closes = closes d some.0 some.1 no_emoji; breaks = λ after. clusters-apart d some.0 some.1 no_emoji c after both.1 }

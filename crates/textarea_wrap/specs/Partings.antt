@@ -44,10 +44,10 @@ is_closed cluster.Lv = true
 is_closed cluster.Lvt = true
 is_closed _ = false
 
-abbrev pub is_final : IndicConjunctBreak → Bool
-is_final conjunct.None = true
-is_final conjunct.Consonant = true
-is_final _ = false
+abbrev pub joins_no_conjunct : IndicConjunctBreak → Bool
+joins_no_conjunct conjunct.None = true
+joins_no_conjunct conjunct.Consonant = true
+joins_no_conjunct _ = false
 
 -- one of this value joins no such character before it
 abbrev pub begins_cluster : GraphemeClusterBreak → Bool
@@ -59,7 +59,7 @@ begins_cluster _ = false
 
 -- whether the clusters up to the character don't depend on what follows it, nor those on it
 abbrev pub ends_clusters : ℕ → Bool
-ends_clusters c = is_closed (grapheme_cluster_break c) && is_final (indic_conjunct_break c) && not (is_extended_pictographic c)
+ends_clusters c = is_closed (grapheme_cluster_break c) && joins_no_conjunct (indic_conjunct_break c) && not (is_extended_pictographic c)
 
 abbrev pub parts_clusters : ℕ → ℕ → Bool
 parts_clusters last next = ends_clusters last && begins_cluster (grapheme_cluster_break next)

@@ -3,7 +3,7 @@ ghost use Rattle.std.specs.Prelude.{◌≡◌, ◌+◌, ◌<◌, ◌≤◌, ℕ,
 ghost use Rattle.textarea_paint.specs.Letters.{AreLetters};
 ghost use Rattle.textarea_paint.specs.LineClusters.{FitsKind};
 ghost use Rattle.textarea_paint.specs.Units.{AreUnits};
-ghost use Rattle.textarea_paint.specs.Walk.{IsWalk};
+ghost use Rattle.textarea_paint.specs.Walk.{IsPartlyDrawn};
 ghost use Rattle.textarea_paint.specs.Prelude.{AreInline, letter_clusters, Changes, KeepsOutside, INLINE_BYTES, IsAnyPen, IsPenAt, IsColumnWithin, IsPrintable, row_change, area_of, is_in_cells, is_room_at, place_from, placed_at, clusters_width, columns_of, plain_clusters, run_clusters, styled_cluster, text_clusters};
 
 use super::clusters::{ClusterRun, RunKind, StyledCluster};
@@ -162,7 +162,7 @@ fn draw_first_letters<'a>(
     requires within { IsColumnWithin cells pen.x }
     requires letters { AreLetters columns letters.now }
     requires pen { IsAnyPen cells pen }
-    ensures walk { IfOk result (λ after. IsWalk cells pen after.0
+    ensures walk { IfOk result (λ after. IsPartlyDrawn cells pen after.0
         (letter_clusters style letters.now) (letter_clusters style after.1.now)
         buffer.old buffer.new) }
     ensures letters { IfOk result (λ after. AreLetters columns after.1.now) }
