@@ -3,8 +3,8 @@ use Rattle.std.specs.Char.{IsScalar}
 use Rattle.std.specs.Prelude.{encode_utf8, encode_utf8_all}
 use Rattle.std.proofs.lemmas.List.{append_cancel_left, drop-take, take-take}
 use Rattle.std.proofs.lemmas.Str.{IsCharBoundary-from_take, IsUtf8-drop, IsUtf8-encode}
-use Rattle.textarea_wrap.proofs.Prelude.{IsCharBoundary-at_seam, IsCharBoundary-end, IsUtf8-between, IsUtf8-take, chars-append, chars-nil, chars_past_char, encodes-chars, flat_map-append, length-take-le, map-append, take-append-drop, take_at}
-use Rattle.std.proofs.Common.{◌≡◌, ℕ, zero, suc, ◌+◌, ◌-◌, ◌<◌, ◌≤◌, true, List, [], ◌∷◌, ◌++◌, get_or, length, take, drop, refl, sym, ap, ap₂, subst, ◌∙◌, append_assoc, append-nil, length-append, length-drop, arith}
+use Rattle.textarea_wrap.proofs.Prelude.{IsCharBoundary-at_seam, IsCharBoundary-end, IsCharBoundary-start, IsUtf8-between, IsUtf8-take, cases_lt, chars-append, chars-nil, chars_past_char, encodes-chars, flat_map-append, length-take-le, map-append, take-append-drop, take_at}
+use Rattle.std.proofs.Common.{◌≡◌, ℕ, zero, suc, ◌+◌, ◌-◌, ◌<◌, ◌≤◌, true, List, [], ◌∷◌, ◌++◌, get_or, length, take, drop, refl, sym, ap, ap₂, subst, ⊎_elim, ◌∙◌, append_assoc, append-nil, length-append, length-drop, arith}
 use Rattle.std.proofs.lemmas.Bool.{false≢true}
 use Rattle.textarea_wrap.specs.Prelude.{AreRowTexts, IsCharBoundary, IsUtf8, IsWrapped, IsWrapping, Stretch, WrapMode, chars, concat, flat_map, line_units, ranges_from, units_of_segment}
 use Rattle.textarea_wrap.specs.declared.wrap.WrapMode.TheVariants as mode
@@ -360,3 +360,57 @@ pub moved_met : (window : List (ℕ × ℕ)) (count : ℕ) (rows : List (ℕ × 
 moved_met window count rows row start =
     map-append (λ (range : ℕ × ℕ). (start + (range.0 - 0), start + (range.1 - 0))) (take count window) (moved (get_or rows row (0, 0)).0 (get_or window count (0, 0)).0 (drop row rows))
     ∙ ap (λ t. moved 0 start (take count window) ++ t) (moved_again (get_or rows row (0, 0)).0 (get_or window count (0, 0)).0 start (drop row rows))
+
+moved_none : (ranges : List (ℕ × ℕ)) → moved 0 0 ranges ≡ ranges
+moved_none [] = refl
+moved_none (range ∷ ranges) =
+    let begin : 0 + (range.0 - 0) ≡ range.0 = omega arith in
+    let end : 0 + (range.1 - 0) ≡ range.1 = omega arith in
+    ap₂ (λ n m. (n, m) ∷ moved 0 0 ranges) begin end ∙ ap (λ r. (range.0, range.1) ∷ r) (moved_none ranges)
+
+-- the first row begins at the line's start
+first_start : (kind : WrapMode) (t w : ℕ) (old : List ℕ) (ranges : List (ℕ × ℕ)) → IsWrapped kind t w old ranges → 0 < length ranges → (get_or ranges 0 (0, 0)).0 ≡ 0
+first_start kind t w old ranges was some =
+    ap (λ (r : List (ℕ × ℕ)). (get_or r 0 (0, 0)).0) was.ranges_are ∙ range_start 0 0 was.texts (omega (arith, some, ap length was.ranges_are))
+
+-- if no row is kept, the rows are those of the whole line
+IsWrapped-none_kept : (kind : WrapMode) (t w : ℕ) (line : List ℕ) (ranges tail : List (ℕ × ℕ)) (start : ℕ) → start ≡ 0 → IsWrapped kind t w (drop start line) tail → IsWrapped kind t w line (take 0 ranges ++ moved 0 start tail)
+IsWrapped-none_kept kind t w line ranges tail start is all =
+    let whole : IsWrapped kind t w line tail = subst (λ n. IsWrapped kind t w (drop n line) tail) is all in
+    subst (IsWrapped kind t w line) (sym (ap (λ n. moved 0 n tail) is ∙ moved_none tail)) whole
+
+-- where the first row that isn't kept begins
+pub record IsKeptStart (line : List ℕ) (rows : List (ℕ × ℕ)) (kept same : ℕ) : Type 0 where
+  pub within : kept < length rows
+  pub near : (get_or rows kept (0, 0)).0 ≤ same
+  pub boundary : IsCharBoundary line (get_or rows kept (0, 0)).0
+
+module _ (kind : WrapMode) (t w : ℕ) (old line : List ℕ) (rows : List (ℕ × ℕ)) (kept same : ℕ) (u : IsUtf8 line) (was : IsWrapped kind t w old rows) (some : 0 < length rows)
+    (within : 0 < kept → kept < length rows) (found : 0 < kept → (q r : ℕ) × ArePartings kind line (get_or rows kept (0, 0)).0 q r same) where
+  at_start : kept ≡ 0 → (get_or rows kept (0, 0)).0 ≡ 0
+  at_start is = ap (λ k. (get_or rows k (0, 0)).0) is ∙ first_start kind t w old rows was some
+
+  pub kept_start : IsKeptStart line rows kept same
+  kept_start =
+      ⊎_elim
+      (λ (more : 0 < kept).
+      let partings = found more in
+      let first = partings.2.first_before in let second = partings.2.second_before in let third = partings.2.third_before in
+      record { within = within more; near = omega arith; boundary = partings.2.first.boundary })
+      (λ (none : kept ≤ 0).
+      let zero_kept : kept ≡ 0 = omega arith in
+      let start = at_start zero_kept in
+      record { within = omega arith; near = omega (arith, start); boundary = subst (IsCharBoundary line) (sym start) (IsCharBoundary-start line u) })
+      (cases_lt 0 kept)
+
+  -- the rows of the new line
+  pub IsWrapped-rewrapped : AgreeUntil old line same → (tail : List (ℕ × ℕ)) → IsWrapped kind t w (drop (get_or rows kept (0, 0)).0 line) tail →
+      IsWrapped kind t w line (take kept rows ++ moved 0 (get_or rows kept (0, 0)).0 tail)
+  IsWrapped-rewrapped agree tail rest =
+      ⊎_elim
+      (λ (more : 0 < kept). let partings = found more in IsWrapped-kept kind t w old line rows tail kept partings.0 partings.1 same u agree was (within more) partings.2 rest)
+      (λ (none : kept ≤ 0).
+      let zero_kept : kept ≡ 0 = omega arith in
+      subst (λ k. IsWrapped kind t w line (take k rows ++ moved 0 (get_or rows kept (0, 0)).0 tail)) (sym zero_kept)
+      (IsWrapped-none_kept kind t w line rows tail (get_or rows kept (0, 0)).0 (at_start zero_kept) rest))
+      (cases_lt 0 kept)

@@ -132,11 +132,12 @@ fn rewrap_and_mark(
         → IsOk result }
 {
     let rows = old.as_slice();
-    let same = same_start(old_line, line);
-    let kept = kept_count(line, rows, mode, same);
-    if kept == 0 || !is_short(old_line) || !is_short(line) || fits_width(line, width, tab_len) {
+    let is_wrapped = is_short(old_line) && is_short(line) && !fits_width(line, width, tab_len);
+    if mode == WrapMode::None || rows.is_empty() || !is_wrapped {
         return wrap_and_mark(alloc, line, mode, width, tab_len);
     }
+    let same = same_start(old_line, line);
+    let kept = kept_count(line, rows, mode, same);
     let mut ranges = rewrap(alloc, line, mode, width, tab_len, old_line, rows, kept)?;
     push_marks_after(&mut ranges, line, &old.marks()[..kept / 8])?;
     Ok(ranges)

@@ -1,8 +1,9 @@
-use Rattle.std.proofs.Common.{◌≡◌, ◌<◌, ◌≤◌, ◌/◌, ◌++◌, ℕ, List, arith, ap, get_or, length, sym, subst, take, ◌∙◌}
+use Rattle.std.proofs.Common.{◌≡◌, ◌<◌, ◌/◌, ◌++◌, ℕ, List, arith, ap, get_or, length, sym, subst, take, ◌∙◌}
+use Rattle.std.proofs.lemmas.Bool.Decides.{nat_tests}
 use Rattle.textarea_wrap.specs.Prelude.{IsWrapped, marks_of}
 use Rattle.textarea_wrap.specs.Partings.{moved}
 use Rattle.textarea_wrap.proofs.KeptMarkLemmas.{kept_marks, kept_marks_size, row_boundary}
-use Rattle.textarea_wrap.proofs.KeptRowLemmas.{IsWrapped-kept}
+use Rattle.textarea_wrap.proofs.KeptRowLemmas.{IsWrapped-rewrapped, kept_start}
 use Rattle.textarea_wrap.proofs.MarkLemmas.{rows_ordered}
 use Rattle.textarea_wrap.proofs.wrap.rewrap_and_mark.Goals as goal
 use Rattle.textarea_wrap.proofs.wrap.rewrap_and_mark.Goals.{After-marks, After-same_start-same}
@@ -15,6 +16,13 @@ pub kept_count-kept-requires : goal.kept_count-kept-requires
 kept_count-kept-requires c =
     row_boundary c.args.old_line.now c.args.line.now c.same_start-same.result c.utf8.line c.same_start-same.ensures c.args.mode c.args.tab_len c.args.width c.as_slice-rows.result.now
     (was (goal.at.kept_count-kept-requires c).After-same_start-same)
+
+pub rewrap-requires-clause-boundary : goal.rewrap-requires-clause-boundary
+rewrap-requires-clause-boundary c =
+    let rows = c.as_slice-rows.result.now in
+    let some : 0 < length rows = grind (arith, nat_tests, c.if-is_empty.ensures) in
+    (kept_start c.args.mode c.args.tab_len c.args.width c.args.old_line.now c.args.line.now rows c.kept_count-kept.result c.same_start-same.result c.utf8.line
+    (was (goal.at.rewrap-requires-clause-boundary c).After-same_start-same) some c.kept_count-kept.ensures.within c.kept_count-kept.ensures.partings).boundary
 
 -- the new rows
 record IsRewrapped (c : After-marks) : Type 0 where
@@ -32,21 +40,19 @@ rewrapped c =
     let kept = c.kept_count-kept.result in
     let same = c.same_start-same.result in
     let agree = c.same_start-same.ensures in
-    let some : 0 < kept = omega (arith, c.if-kept-eq0.false) in
-    let within = c.kept_count-kept.ensures.within some in
-    let found = c.kept_count-kept.ensures.partings some in
     let rest = c.in_ok-ranges.ensures in
     let before = subst (IsWrapped c.args.mode c.args.tab_len c.args.width old) (sym c.as_slice-rows.ensures) c.requires.old_rows in
-    let all = IsWrapped-kept c.args.mode c.args.tab_len c.args.width old line rows rest.0 kept found.0 found.1 same c.utf8.line agree before within found.2 rest.1 in
-    let near : (get_or rows kept (0, 0)).0 ≤ same = let p = found.2.first_before in let q = found.2.second_before in let r = found.2.third_before in omega arith in
+    let some : 0 < length rows = grind (arith, nat_tests, c.if-is_empty.ensures) in
+    let start = kept_start c.args.mode c.args.tab_len c.args.width old line rows kept same c.utf8.line before some c.kept_count-kept.ensures.within c.kept_count-kept.ensures.partings in
+    let all = IsWrapped-rewrapped c.args.mode c.args.tab_len c.args.width old line rows kept same c.utf8.line before some c.kept_count-kept.ensures.within c.kept_count-kept.ensures.partings agree rest.0 rest.1 in
     let marks : c.marks.result.now ≡ marks_of old rows = c.marks.ensures ∙ c.requires.old_marks ∙ ap (marks_of old) (sym c.as_slice-rows.ensures) in
     let tail = moved 0 (get_or rows kept (0, 0)).0 rest.0 in
     record {
       tail = tail;
       items_are = rest.2;
       wrapped = subst (IsWrapped c.args.mode c.args.tab_len c.args.width line) (sym rest.2) all;
-      size = ap (λ m. length (take (kept / 8) m)) marks ∙ kept_marks_size old line same c.utf8.line agree c.args.mode c.args.tab_len c.args.width rows tail kept before within near;
-      known = rw (marks, rest.2) (kept_marks old line same c.utf8.line agree c.args.mode c.args.tab_len c.args.width rows tail kept before within near);
+      size = ap (λ m. length (take (kept / 8) m)) marks ∙ kept_marks_size old line same c.utf8.line agree c.args.mode c.args.tab_len c.args.width rows tail kept before start.within start.near;
+      known = rw (marks, rest.2) (kept_marks old line same c.utf8.line agree c.args.mode c.args.tab_len c.args.width rows tail kept before start.within start.near);
     }
 
 pub slice_bounds-push_marks_after-end : goal.slice_bounds-push_marks_after-end
