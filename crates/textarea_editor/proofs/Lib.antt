@@ -17,3 +17,4 @@ mod ReadOnlyTexts
 mod Views
 mod ControlCounts
 mod DiskLemmas
+mod Storages
