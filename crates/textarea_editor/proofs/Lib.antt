@@ -19,3 +19,4 @@ mod Views
 mod ControlCounts
 mod DiskLemmas
 mod Copying
+mod Storages

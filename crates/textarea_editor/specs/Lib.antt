@@ -14,6 +14,7 @@ pub mod FileText
 pub mod HelpKeys
 pub mod HelpRows
 pub mod Indents
+pub mod JournalFiles
 pub mod JournalMakers
 pub mod JournalQuestions
 pub mod KeyTable
@@ -21,6 +22,7 @@ pub mod LineNumber
 pub mod MadeSteps
 pub mod Messages
 pub mod Names
+pub mod Openings
 pub mod Pages
 pub mod Patterns
 pub mod Positions
@@ -41,6 +43,7 @@ pub mod StatusRow
 pub mod StatusWords
 pub mod StepOf
 pub mod Steps
+pub mod Storage
 pub mod TerminalColors
 pub mod TerminalScreen
 pub mod Turns

@@ -1,16 +1,25 @@
 //! What is kept of a text on disk: its file, and the journal of its unsaved changes.
 
+ghost use Rattle.std.specs.Duration.{as_nanos};
+ghost use Rattle.std.specs.Prelude.{◌≡◌};
+ghost use Rattle.textarea_editor.specs.Openings.{IsOpening};
+ghost use Rattle.textarea_editor.specs.Storage.{IsNoted, IsRecovery, IsRestoration, IsStored, IsWrite, ended, journal_given_up, is_write_due};
+
+mod opening;
+mod writing;
+
 use crate::disk::DiskFile;
-use crate::disk::journal_file::{FoundJournal, JournalFile, open_locked};
+use crate::disk::journal_file::{JournalFile, open_locked};
 use crate::editor::Editor;
 use crate::effect::{SaveEnd, SaveRequest};
 use crate::message::{Message, Trouble};
+use opening::{tell, told_at_opening};
 use std::alloc::AllocError;
 use std::fs::File;
 use std::io::ErrorKind;
 use std::time::Duration;
 use textarea_data::input::Input;
-use textarea_disk::{EventTimes, Journal, Recovery, recovered};
+use textarea_disk::{EventTimes, Journal};
 use textarea_terminal::input::Event;
 
 /// The file of a text, and its journal.
@@ -46,89 +55,27 @@ impl Storage {
         rt: &HostRuntime,
         editor: &mut Editor,
         name: &str,
-    ) -> Result<Option<Trouble>, AllocError> {
+    ) -> Result<Option<Trouble>, AllocError>
+        ensures { IsOpening self.old editor.old name.now result self.new editor.new }
+    {
         let text = match self.file.read(rt, name) {
             Ok(text) => text,
             Err(Trouble::NotText) => return self.view(rt, editor, name),
             Err(trouble) => return Ok(Some(trouble)),
         };
         let is_first = self.lock(rt, name);
-        match self.journal_file.find(rt, name) {
-            FoundJournal::Nothing => editor.open(name, text)?,
-            FoundJournal::Busy => {
-                self.is_off = true;
-                editor.open(name, text)?;
-            }
-            FoundJournal::Bytes(journal) => {
-                self.open_with(rt, editor, name, text, journal)?;
-            }
-        }
-        if self.is_off || !is_first {
-            editor.show_message(Message::OpenElsewhere);
-        } else if let Some(trouble) = self.file.refusal(rt, name) {
-            editor.show_message(Message::Unwritable(trouble));
-        }
+        let found = self.journal_file.find(rt, name);
+        self.open_text(rt, editor, name, text, found)?;
+        let refusal = self.file.refusal(rt, name);
+        tell(editor, told_at_opening(self.is_off, is_first, refusal));
         Ok(None)
-    }
-
-    // Shows the bytes of the file of this name. The text has no name, so nothing is locked, and there
-    // is no journal.
-    fn view(
-        &self,
-        rt: &HostRuntime,
-        editor: &mut Editor,
-        name: &str,
-    ) -> Result<Option<Trouble>, AllocError> {
-        match self.file.viewed(rt, name) {
-            Ok(text) => {
-                editor.view(text)?;
-                Ok(None)
-            }
-            Err(trouble) => Ok(Some(trouble)),
-        }
-    }
-
-    // Opens a text beside which there is a journal with these bytes.
-    fn open_with(
-        &mut self,
-        rt: &HostRuntime,
-        editor: &mut Editor,
-        name: &str,
-        text: Option<String>,
-        journal: Vec<u8>,
-    ) -> Result<(), AllocError> {
-        let bytes = match &text {
-            Some(text) => text.as_bytes(),
-            None => b"",
-        };
-        let found = recovered(rt.alloc(), bytes, journal.as_slice())?;
-        let has_changes = found.size > 0 && !(found.is_of_file && found.text.as_slice() == bytes);
-        editor.open(name, text)?;
-        if has_changes {
-            self.offer(editor, found);
-        } else {
-            self.journal_file.remove(rt);
-        }
-        Ok(())
-    }
-
-    // Has the editor ask what to do about a journal with changes.
-    fn offer(&mut self, editor: &mut Editor, found: Recovery) {
-        self.size = found.size;
-        self.is_kept = true;
-        let is_of_file = found.is_of_file;
-        match String::from_utf8(found.text) {
-            Ok(text) if is_of_file => {
-                self.offered = Some(text);
-                editor.ask_about_journal(true);
-            }
-            _ => editor.ask_about_journal(false),
-        }
     }
 
     /// Has the editor go on with the text of a journal, if it asks whether to, as if the reply were
     /// yes.
-    pub fn restore(&mut self, editor: &mut Editor) -> Result<(), AllocError> {
+    pub fn restore(&mut self, editor: &mut Editor) -> Result<(), AllocError>
+        ensures { IsRestoration self.old editor.old result self.new editor.new }
+    {
         if self.offered.is_none() {
             return Ok(());
         }
@@ -136,23 +83,13 @@ impl Storage {
         self.recover(editor)
     }
 
-    // Locks the file of this name, if there is one, and returns false if another editor has it.
-    fn lock(&mut self, rt: &HostRuntime, name: &str) -> bool {
-        self.locked = None;
-        match open_locked(rt, name) {
-            Ok(file) => {
-                self.locked = file;
-                true
-            }
-            Err(error) => error.kind() != ErrorKind::ResourceBusy,
-        }
-    }
-
     /// Has the editor go on with the text that was offered. Its changes count as unsaved, and its
     /// journal goes on after the records that could be read.
     ///
     /// If memory runs out, the editor is as before, and the journal stays.
-    pub fn recover(&mut self, editor: &mut Editor) -> Result<(), AllocError> {
+    pub fn recover(&mut self, editor: &mut Editor) -> Result<(), AllocError>
+        ensures { IsRecovery self.old editor.old result self.new editor.new }
+    {
         let Some(text) = self.offered.take() else {
             return Ok(());
         };
@@ -168,7 +105,9 @@ impl Storage {
     }
 
     /// Notes an event at this time, after which the editor's text may be another one.
-    pub fn note(&mut self, rt: &HostRuntime, editor: &Editor, time: Duration) {
+    pub fn note(&mut self, rt: &HostRuntime, editor: &Editor, time: Duration)
+        ensures { IsNoted self.old editor.now (as_nanos time) self.new }
+    {
         if editor.is_changed() {
             self.file.make_hash(rt, editor.name().unwrap_or(""));
         }
@@ -178,14 +117,18 @@ impl Storage {
     }
 
     /// Returns whether the journal is to be written.
-    pub fn is_due(&self, time: Duration) -> bool {
+    pub fn is_due(&self, time: Duration) -> bool
+        ensures { result ≡ is_write_due self.now (as_nanos time) }
+    {
         self.times.is_due(time)
     }
 
     /// Brings the journal to the editor's text, if that may have changed and has a name. After a
     /// failure, which is shown, the records that were written stay, and no others are, until the
     /// text is saved.
-    pub fn write(&mut self, rt: &HostRuntime, editor: &mut Editor) {
+    pub fn write(&mut self, rt: &HostRuntime, editor: &mut Editor)
+        ensures { IsWrite self.old editor.old self.new editor.new }
+    {
         self.times.clear();
         if !self.is_off && !self.is_kept {
             self.untold = self.written(rt, editor);
@@ -198,45 +141,10 @@ impl Storage {
         }
     }
 
-    // Brings the journal to the editor's text, and returns why that failed, if it did.
-    fn written(&mut self, rt: &HostRuntime, editor: &Editor) -> Option<Message> {
-        let name = editor.name()?;
-        if self.journal.is_some() {
-            return self.write_text(rt, editor, name);
-        }
-        if !editor.is_changed() {
-            return None;
-        }
-        let Ok(bytes) = self.file.bytes(rt, name) else {
-            return Some(Message::NoJournal);
-        };
-        self.journal = Some(Journal::of_file(bytes));
-        let failed = self.write_text(rt, editor, name);
-        if failed.is_some() {
-            self.journal_file.remove(rt);
-            self.journal = None;
-        }
-        failed
-    }
-
-    // The same once it is known what the journal has.
-    fn write_text(&mut self, rt: &HostRuntime, editor: &Editor, name: &str) -> Option<Message> {
-        let journal = self.journal.as_mut()?;
-        let Ok(text) = editor.text() else {
-            return Some(Message::NoJournal);
-        };
-        let Ok(write) = journal.write(text.into_bytes()) else {
-            return Some(Message::NoJournal);
-        };
-        match self.journal_file.carry_out(rt, name, &write?) {
-            Ok(()) => None,
-            Err(error) if error.kind() == ErrorKind::AlreadyExists => Some(Message::OpenElsewhere),
-            Err(_) => Some(Message::NoJournal),
-        }
-    }
-
     /// Removes the journal: its changes are given up.
-    pub fn discard(&mut self, rt: &HostRuntime) {
+    pub fn discard(&mut self, rt: &HostRuntime)
+        ensures { self.new ≡ journal_given_up self.old }
+    {
         self.journal_file.remove(rt);
         self.offered = None;
         self.journal = None;
@@ -248,14 +156,18 @@ impl Storage {
 
     /// Removes the journal that was written, if there is one, at the end of the program: the text is
     /// saved or given up.
-    pub fn end(&mut self, rt: &HostRuntime) {
+    pub fn end(&mut self, rt: &HostRuntime)
+        ensures { self.new ≡ ended self.old }
+    {
         if !self.is_kept {
             self.discard(rt);
         }
     }
 
     /// Carries out a save, as [`DiskFile::save`] does, and then removes the journal.
-    pub fn save(&mut self, rt: &HostRuntime, saving: &SaveRequest) -> SaveEnd {
+    pub fn save(&mut self, rt: &HostRuntime, saving: &SaveRequest) -> SaveEnd
+        ensures { IsStored self.old saving.now result self.new }
+    {
         let name = saving.name();
         let end = self.file.save(rt, name, saving.text(), saving.overwrites());
         if end.is_saved() {
@@ -263,5 +175,19 @@ impl Storage {
             self.lock(rt, name);
         }
         end
+    }
+
+    // Locks the file of this name, if there is one, and returns false if another editor has it.
+    fn lock(&mut self, rt: &HostRuntime, name: &str) -> bool
+        ensures { self.new ≡ record self.old { locked = self.new.locked } }
+    {
+        self.locked = None;
+        match open_locked(rt, name) {
+            Ok(file) => {
+                self.locked = file;
+                true
+            }
+            Err(error) => error.kind() != ErrorKind::ResourceBusy,
+        }
     }
 }

@@ -1,8 +1,10 @@
 //! The journal of a file on disk: beside the file, or in the user's folder for state where that
 //! can't be.
 
-ghost use Rattle.std.specs.Prelude.{◌≡◌, IfOk, string_bytes};
+ghost use Rattle.std.specs.Prelude.{◌≡◌, Bool, IfOk, OnErr, OnOk, is_ok, string_bytes};
+ghost use Rattle.textarea_disk.specs.declared.journal_write.JournalWrite.{JournalWrite};
 ghost use Rattle.textarea_editor.specs.DiskNames.{journal_name};
+ghost use Rattle.textarea_editor.specs.JournalFiles.{HasOpen, IsJournalFound, none_open};
 ghost use Rattle.textarea_editor.specs.MadeSteps.{AreMadeUpTo, IsRemoved};
 
 use super::carrying_out::sync_folder;
@@ -41,7 +43,9 @@ pub enum FoundJournal {
 
 impl JournalFile {
     /// Opens the journal of the file of this name, if there is one, and returns its bytes.
-    pub fn find(&mut self, rt: &HostRuntime, name: &str) -> FoundJournal {
+    pub fn find(&mut self, rt: &HostRuntime, name: &str) -> FoundJournal
+        ensures { IsJournalFound self.old result self.new }
+    {
         match self.read_beside(rt, name) {
             Ok(bytes) => FoundJournal::Bytes(bytes),
             Err(error) if error.kind() == ErrorKind::ResourceBusy => FoundJournal::Busy,
@@ -53,18 +57,27 @@ impl JournalFile {
         }
     }
 
-    fn read_beside(&mut self, rt: &HostRuntime, name: &str) -> io::Result<Vec<u8>> {
+    fn read_beside(&mut self, rt: &HostRuntime, name: &str) -> io::Result<Vec<u8>>
+        ensures ok { OnOk result (HasOpen self.new) }
+        ensures err { OnErr result (self.new ≡ self.old) }
+    {
         let name = beside(rt, name)?;
         self.read(rt, name)
     }
 
-    fn read_elsewhere(&mut self, rt: &HostRuntime, name: &str) -> io::Result<Vec<u8>> {
+    fn read_elsewhere(&mut self, rt: &HostRuntime, name: &str) -> io::Result<Vec<u8>>
+        ensures ok { OnOk result (HasOpen self.new) }
+        ensures err { OnErr result (self.new ≡ self.old) }
+    {
         let name = elsewhere(rt, name)?;
         self.read(rt, name)
     }
 
     // Opens a journal that exists, and returns its bytes.
-    fn read(&mut self, rt: &HostRuntime, name: String) -> io::Result<Vec<u8>> {
+    fn read(&mut self, rt: &HostRuntime, name: String) -> io::Result<Vec<u8>>
+        ensures ok { OnOk result (HasOpen self.new) }
+        ensures err { OnErr result (self.new ≡ self.old) }
+    {
         if !fs::symlink_metadata(rt, name.as_str())?.is_file() {
             return Err(io::Error::from(ErrorKind::NotFound));
         }
@@ -80,21 +93,43 @@ impl JournalFile {
     }
 
     /// Cuts the open journal to this size, so that records can be added after those that were read.
-    pub fn cut(&mut self, size: u64) -> io::Result<()> {
+    pub fn cut(&self, size: u64) -> io::Result<()> {
         match &self.open {
             Some(open) => open.file.set_len(size),
             None => Err(io::Error::from(ErrorKind::NotFound)),
         }
     }
 
-    /// Makes the steps of a write to the journal of the file of this name, up to the first that
-    /// fails.
-    pub fn carry_out(
-        &mut self,
-        rt: &HostRuntime,
-        name: &str,
-        write: &JournalWrite,
-    ) -> io::Result<()> {
+    /// Removes the open journal from the disk, if there is one.
+    pub fn remove(&mut self, rt: &HostRuntime)
+        ensures { self.new ≡ none_open }
+    {
+        let mut maker = JournalMaker {
+            rt,
+            name: "",
+            bytes: b"",
+            open: self.open.take(),
+        };
+        make_removal(&mut maker);
+    }
+}
+
+// What carries out the writes of a journal.
+pub(crate) trait CarriesOut {
+    // What a write that is carried out, or that fails, may do: the value before it and after it.
+    ghost writes: { Self → JournalWrite → Bool → Self → Type 0 };
+
+    // Makes the steps of a write to the journal of the file of this name, up to the first that fails.
+    fn carry_out(&mut self, rt: &HostRuntime, name: &str, write: &JournalWrite) -> io::Result<()>
+        ensures { writes self.old write.now (is_ok result) self.new };
+}
+
+impl CarriesOut for JournalFile {
+    ghost use Rattle.textarea_editor.specs.JournalFiles.{IsWritten};
+
+    ghost writes = { IsWritten };
+
+    fn carry_out(&mut self, rt: &HostRuntime, name: &str, write: &JournalWrite) -> io::Result<()> {
         let bytes = write.bytes.as_slice();
         let mut maker = JournalMaker {
             rt,
@@ -106,17 +141,6 @@ impl JournalFile {
         let JournalMaker { open, .. } = maker;
         self.open = open;
         outcome
-    }
-
-    /// Removes the open journal from the disk, if there is one.
-    pub fn remove(&mut self, rt: &HostRuntime) {
-        let mut maker = JournalMaker {
-            rt,
-            name: "",
-            bytes: b"",
-            open: self.open.take(),
-        };
-        make_removal(&mut maker);
     }
 }
 
