@@ -13,10 +13,10 @@ abbrev pub HasOpen : JournalFile → Type 0
 HasOpen file = is_some file.«open» ≡ true
 
 -- a journal that is found is open then; else what was open stays so
-abbrev pub IsFound : JournalFile → FoundJournal → JournalFile → Type 0
-IsFound old (journal.Bytes bytes) new = HasOpen new
-IsFound old other new = new ≡ old
+abbrev pub IsJournalFound : JournalFile → FoundJournal → JournalFile → Type 0
+IsJournalFound old (journal.Bytes bytes) new = HasOpen new
+IsJournalFound old other new = new ≡ old
 
 -- what a write does to a journal that is open or not: the toolchain's files don't say
-abbrev pub IsWritten : JournalFile → JournalWrite → Bool → JournalFile → Type 0
-IsWritten old write made new = Unit {0}
+abbrev pub IsJournalWrite : JournalFile → JournalWrite → Bool → JournalFile → Type 0
+IsJournalWrite old write made new = Unit {0}

@@ -11,7 +11,7 @@ use Rattle.textarea_editor.specs.DiskFiles.{IsRead}
 use Rattle.textarea_editor.specs.Draft.{HasCopy, IsSaved}
 use Rattle.textarea_editor.specs.Editor.{IsNamed, KeepsRest, controls_of, draft_of, end_of, file_name_of, message_of, numbers_of, with_controls, with_message, wraps_of}
 use Rattle.textarea_editor.specs.Effects.{IsWritten, optional_bytes}
-use Rattle.textarea_editor.specs.JournalFiles.{IsFound, none_open}
+use Rattle.textarea_editor.specs.JournalFiles.{IsJournalFound, none_open}
 use Rattle.textarea_editor.specs.JournalQuestions.{journal_question}
 use Rattle.textarea_editor.specs.SetUp.{IsNewFile, IsOpened, IsViewed}
 use Rattle.textarea_editor.specs.declared.disk.journal_file.FoundJournal.{FoundJournal}
@@ -127,7 +127,7 @@ pub record IsFileTaken (old : Storage) (editor : Editor) (name : List ℕ) (new 
   pub found : FoundJournal
   pub between : Storage
   pub read : IsRead old.file name (Ok text) between.file
-  pub is_found : IsFound old.journal_file found between.journal_file
+  pub is_found : IsJournalFound old.journal_file found between.journal_file
   pub kept : KeepsAllButFile old between
   pub opened : Editor
   pub is_opened : IsOpenedAt found name text between editor new opened

@@ -4,7 +4,7 @@
 ghost use Rattle.std.specs.Prelude.{◌≡◌, Bool, IfOk, OnErr, OnOk, is_ok, string_bytes};
 ghost use Rattle.textarea_disk.specs.declared.journal_write.JournalWrite.{JournalWrite};
 ghost use Rattle.textarea_editor.specs.DiskNames.{journal_name};
-ghost use Rattle.textarea_editor.specs.JournalFiles.{HasOpen, IsFound, none_open};
+ghost use Rattle.textarea_editor.specs.JournalFiles.{HasOpen, IsJournalFound, none_open};
 ghost use Rattle.textarea_editor.specs.MadeSteps.{AreMadeUpTo, IsRemoved};
 
 use super::carrying_out::sync_folder;
@@ -44,7 +44,7 @@ pub enum FoundJournal {
 impl JournalFile {
     /// Opens the journal of the file of this name, if there is one, and returns its bytes.
     pub fn find(&mut self, rt: &HostRuntime, name: &str) -> FoundJournal
-        ensures { IsFound self.old result self.new }
+        ensures { IsJournalFound self.old result self.new }
     {
         match self.read_beside(rt, name) {
             Ok(bytes) => FoundJournal::Bytes(bytes),
@@ -125,9 +125,9 @@ pub(crate) trait CarriesOut {
 }
 
 impl CarriesOut for JournalFile {
-    ghost use Rattle.textarea_editor.specs.JournalFiles.{IsWritten};
+    ghost use Rattle.textarea_editor.specs.JournalFiles.{IsJournalWrite};
 
-    ghost writes = { IsWritten };
+    ghost writes = { IsJournalWrite };
 
     fn carry_out(&mut self, rt: &HostRuntime, name: &str, write: &JournalWrite) -> io::Result<()> {
         let bytes = write.bytes.as_slice();
