@@ -1,29 +1,26 @@
--- Lemmas on what a storage does with a journal that is found.
-use Rattle.std.proofs.Common.{◌≡◌, ◌↔◌, ◌≤◌, ◌^◌, ◌&&◌, ◌||◌, ◌∙◌, Bool, true, false, not, IfSome, IsTrue, List, ℕ, Option, None, Some, Ok, String, Vec, refl, sym, ap, inr, is_none, subst, length, string_bytes}
+-- Lemmas on what a storage does with its journal.
+use Rattle.std.proofs.Common.{◌≡◌, ◌&&◌, ◌||◌, ◌∙◌, Bool, true, false, not, IfSome, List, ℕ, Option, None, Some, Ok, String, Vec, refl, sym, ap, inr, is_none, is_some, subst, string_bytes}
+use Rattle.std.proofs.lemmas.Bool.{and_parts, false≢true}
 use Rattle.std.proofs.lemmas.Str.{IsUtf8-from_is_utf8, IsUtf8-string_bytes, is_utf8-from_IsUtf8}
+use Rattle.std.specs.Option.{IsSomeAnd}
 use Rattle.std.specs.Str.{IsUtf8, is_utf8}
 use Rattle.std.specs.String.{string_vec}
 use Rattle.std.specs.declared.alloc.Global.{Global}
 use Rattle.textarea_disk.specs.JournalWrites.{IsWriteOf}
+use Rattle.textarea_disk.specs.TextChange.{IsReadFor}
 use Rattle.textarea_disk.specs.declared.journal_write.Journal.{Journal}
 use Rattle.textarea_disk.specs.declared.journal_write.JournalWrite.{JournalWrite}
 use Rattle.textarea_disk.specs.declared.text_change.Recovery.{Recovery}
-use Rattle.textarea_editor.specs.ControlCharacters.{IsCountShown}
 use Rattle.textarea_editor.specs.DiskFiles.{IsRead}
-use Rattle.textarea_editor.specs.Draft.{IsSaved}
-use Rattle.textarea_editor.specs.Editor.{IsNamed, KeepsRest, controls_of, draft_of, end_of, file_name_of, message_of, wraps_of}
-use Rattle.textarea_disk.specs.TextChange.{IsReadFor}
-use Rattle.textarea_editor.specs.Effects.{IsWritten, optional_bytes}
+use Rattle.textarea_editor.specs.Effects.{optional_bytes}
 use Rattle.textarea_editor.specs.JournalFiles.{IsJournalFound}
-use Rattle.textarea_editor.specs.Openings.{HasTextFrom, IsFileOpened, IsFileTaken, IsOpenedAt, IsOpenedWith, IsTextOf, IsWeighed, KeepsAllButFile, has_changes, has_text, told_at_opening, with_told}
-use Rattle.textarea_editor.specs.SetUp.{IsNewFile, IsOpened}
+use Rattle.textarea_editor.specs.Openings.{IsFileOpened, IsFileTaken, IsOpenedAt, IsOpenedWith, IsTextOf, IsWeighed, KeepsAllButFile, has_changes, has_text, told_at_opening, with_told}
+use Rattle.textarea_editor.specs.Storage.{MakesTextOf, IsBrought, IsWrite, IsWriteDone, IsWriteIf, is_writing, needs_write}
 use Rattle.textarea_editor.specs.declared.disk.DiskFile.{DiskFile}
 use Rattle.textarea_editor.specs.declared.disk.journal_file.FoundJournal.{FoundJournal}
 use Rattle.textarea_editor.specs.declared.disk.journal_file.JournalFile.{JournalFile}
 use Rattle.textarea_editor.specs.declared.editor.Editor.{Editor}
-use Rattle.textarea_editor.specs.Storage.{IsWriteDone}
 use Rattle.textarea_editor.specs.declared.message.Message.{Message}
-use Rattle.textarea_editor.specs.declared.message.Message.TheVariants as message
 use Rattle.textarea_editor.specs.declared.message.Trouble.{Trouble}
 use Rattle.textarea_editor.specs.declared.storage.Storage.{Storage}
 
@@ -57,30 +54,30 @@ write_done writes old new known next found write trouble text some is e made =
     subst (λ (f : Option JournalWrite). IfSome f (IsWriteOf known.is_begun known.text.items text)) is some in
     done writes old new known next write trouble (subst (λ (b : List ℕ). IsWriteOf known.is_begun known.text.items b write) (sym e) of_text) made
 
+made_without_trouble : (trouble : Option Message) (old new : Storage) (editor : Editor) → is_some trouble ≡ false → IsBrought true trouble old editor new → IsSomeAnd new.journal (MakesTextOf editor)
+made_without_trouble None old new editor none brought = brought
+made_without_trouble (Some trouble) old new editor none brought = absurd (false≢true (sym none))
+
+not_off : (storage : Storage) → is_writing storage ≡ true → storage.is_off ≡ false
+not_off storage writing = by_off storage.is_off (and_parts (not storage.is_off) (not storage.is_kept) writing).0
+  where
+    by_off : (off : Bool) → not off ≡ true → off ≡ false
+    by_off false e = refl
+    by_off true e = sym e
+
+written_by : (writing : Bool) (old new : Storage) (editor shown : Editor) → is_writing old ≡ writing → IsWriteIf writing old editor new shown → needs_write old editor ≡ true → is_writing new ≡ true
+    → IsSomeAnd new.journal (MakesTextOf editor)
+written_by true old new editor shown is made needs goes =
+    let none : is_some made.trouble ≡ false = sym (ap (λ (s : Storage). s.is_off) made.rest) ∙ not_off new goes in
+    made_without_trouble made.trouble old new editor none (subst (λ (b : Bool). IsBrought b made.trouble old editor new) needs made.brought)
+written_by false old new editor shown is told needs goes =
+    let same : is_writing new ≡ is_writing old = ap is_writing told.rest in
+    absurd (false≢true (sym is ∙ sym same ∙ goes))
+
+pub written : (old new : Storage) (editor shown : Editor) → IsWrite old editor new shown → needs_write old editor ≡ true → is_writing new ≡ true → IsSomeAnd new.journal (MakesTextOf editor)
+written old new editor shown = written_by (is_writing old) old new editor shown refl
+
 -- ---- a text that is opened
-
-opened_text : (text : Option (String Global)) (old new : Editor)
-    → IfSome text (λ t. IsWritten (draft_of new).area (end_of new) (string_bytes t))
-    → IfSome text (λ t. IsOpened (draft_of new).area (wraps_of new))
-    → IfSome text (λ t. IsTrue (wraps_of new) ↔ (length (string_bytes t) ≤ 2 ^ 20))
-    → IfSome text (λ t. controls_of new ≡ record (controls_of old) { wraps = wraps_of new; numbers = false })
-    → IfSome text (λ t. IsSaved (draft_of new))
-    → IfSome text (λ t. IsCountShown (draft_of new).area message.Nothing (message_of new))
-    → (text ≡ None → IsNewFile old new) → HasTextFrom text old new
-opened_text None old new written opened wraps controls saved counted new_file = new_file refl
-opened_text (Some text) old new written opened wraps controls saved counted new_file =
-    record { written = written; opened = opened; wraps = wraps; controls = controls; saved = saved; counted = counted }
-
-pub file_opened : (name : List ℕ) (text : Option (String Global)) (old new : Editor)
-    → IfSome text (λ t. IsWritten (draft_of new).area (end_of new) (string_bytes t))
-    → IfSome text (λ t. IsOpened (draft_of new).area (wraps_of new))
-    → IfSome text (λ t. IsTrue (wraps_of new) ↔ (length (string_bytes t) ≤ 2 ^ 20))
-    → IfSome text (λ t. controls_of new ≡ record (controls_of old) { wraps = wraps_of new; numbers = false })
-    → IfSome text (λ t. IsSaved (draft_of new))
-    → IfSome text (λ t. IsCountShown (draft_of new).area message.Nothing (message_of new))
-    → (text ≡ None → IsNewFile old new) → IsNamed name (file_name_of new) → KeepsRest old new → IsFileOpened name text old new
-file_opened name text old new written opened wraps controls saved counted new_file named rest =
-    record { has = opened_text text old new written opened wraps controls saved counted new_file; named = named; rest = rest }
 
 pub opened_with : (name read bytes journal : List ℕ) (text : Option (String Global)) (found : Recovery) (changed : Bool) (old new : Storage) (editor opened after : Editor)
     → read ≡ optional_bytes text → bytes ≡ journal → IsReadFor read bytes found → changed ≡ has_changes read found

@@ -18,5 +18,5 @@ IsJournalFound old (journal.Bytes bytes) new = HasOpen new
 IsJournalFound old other new = new ≡ old
 
 -- what a write does to a journal that is open or not: the toolchain's files don't say
-abbrev pub IsWritten : JournalFile → JournalWrite → Bool → JournalFile → Type 0
-IsWritten old write made new = Unit {0}
+abbrev pub IsJournalWrite : JournalFile → JournalWrite → Bool → JournalFile → Type 0
+IsJournalWrite old write made new = Unit {0}

@@ -33,12 +33,12 @@ use Rattle.textarea_terminal.specs.declared.input.event.Event.TheVariants as eve
 -- ---- journals
 
 -- the records of the journal, which is on the disk, make this text of the file
-pub record HasJournalText (text : List ℕ) (known : Journal) : Type 0 where
+pub record MakesText (text : List ℕ) (known : Journal) : Type 0 where
   pub text_is : known.text.items ≡ text
   pub begun : known.is_begun ≡ true
 
 -- they make that of it which a save of the editor's text would give it
-pub record HasJournalTextOf (editor : Editor) (known : Journal) : Type 0 where
+pub record MakesTextOf (editor : Editor) (known : Journal) : Type 0 where
   pub written : IsWritten (draft_of editor).area (end_of editor) known.text.items
   pub begun : known.is_begun ≡ true
 
@@ -54,13 +54,13 @@ noted_if true old now = record { times = noted old.times now }
 noted_if false old now = old
 
 -- a changed text needs the hash of the bytes that it was read from
-abbrev pub IsHashMadeIf : Bool → Storage → List ℕ → Storage → Type 0
-IsHashMadeIf true old name new = IsHashMade old.file name new.file
-IsHashMadeIf false old name new = new.file ≡ old.file
+abbrev pub IsHashOfChanged : Bool → Storage → List ℕ → Storage → Type 0
+IsHashOfChanged true old name new = IsHashMade old.file name new.file
+IsHashOfChanged false old name new = new.file ≡ old.file
 
 -- an event at this time is noted if a journal may have to be written for it: of a changed text, or of one that has a journal
 pub record IsNoted (old : Storage) (editor : Editor) (now : ℕ) (new : Storage) : Type 0 where
-  pub hashed : IsHashMadeIf (draft_of editor).is_changed old (optional_bytes (file_name_of editor)) new
+  pub hashed : IsHashOfChanged (draft_of editor).is_changed old (optional_bytes (file_name_of editor)) new
   pub rest : new ≡ record old { file = new.file; times = noted_if ((draft_of editor).is_changed || is_some old.journal) old.times now }
 
 abbrev pub is_write_due : Storage → ℕ → Bool
@@ -81,14 +81,14 @@ abbrev pub IsJournalTrouble : Message → Type 0
 IsJournalTrouble trouble = (trouble ≡ message.OpenElsewhere) ⊎ (trouble ≡ message.NoJournal)
 
 -- the write that brings a journal to another text, and that is carried out, or fails
-pub record IsWriteCarriedOut {F : Type 0} (writes : F → JournalWrite → Bool → F → Type 0) (old : F) (known : Journal) (made : Bool) (new : F) (next : Journal) : Type 0 where
+pub record IsWriteMade {F : Type 0} (writes : F → JournalWrite → Bool → F → Type 0) (old : F) (known : Journal) (made : Bool) (new : F) (next : Journal) : Type 0 where
   pub write : JournalWrite
   pub is : IsWriteOf known.is_begun known.text.items next.text.items write
   pub carried : writes old write made new
 
 -- there was none if the journal had the text
 pub record IsNotNeeded {F : Type 0} (old : F) (known : Journal) (new : F) (next : Journal) : Type 0 where
-  pub had : HasJournalText next.text.items known
+  pub had : MakesText next.text.items known
   pub same : new ≡ old
 
 -- nor if memory ran out
@@ -98,13 +98,13 @@ pub record IsWithoutMemory {F : Type 0} (old : F) (known : Journal) (trouble : M
   pub same : new ≡ old
 
 abbrev pub IsWriteDone : {F : Type 0} → (F → JournalWrite → Bool → F → Type 0) → F → Journal → Option Message → F → Journal → Type 0
-IsWriteDone writes old known None new next = IsNotNeeded old known new next ⊎ IsWriteCarriedOut writes old known true new next
+IsWriteDone writes old known None new next = IsNotNeeded old known new next ⊎ IsWriteMade writes old known true new next
 IsWriteDone writes old known (Some trouble) new next =
-    IsWithoutMemory old known trouble new next ⊎ IsWriteCarriedOut writes old known false new next
+    IsWithoutMemory old known trouble new next ⊎ IsWriteMade writes old known false new next
 
 -- the journal has the editor's text, or it failed; where there was none then, there is none
 abbrev pub IsTried : Option Message → Storage → Editor → Storage → Type 0
-IsTried None old editor new = IsSomeAnd new.journal (HasJournalTextOf editor)
+IsTried None old editor new = IsSomeAnd new.journal (MakesTextOf editor)
 IsTried (Some trouble) old editor new = IsJournalTrouble trouble × (old.journal ≡ None → new.journal ≡ None)
 
 -- only what is known of the journal, and the open one, may be others
@@ -117,9 +117,9 @@ IsBrought true trouble old editor new = IsTried trouble old editor new
 IsBrought false trouble old editor new = (trouble ≡ None) × (new.journal ≡ old.journal) × (new.journal_file ≡ old.journal_file)
 
 -- the status row takes the message if it shows no other, else it is left to be told
-abbrev pub IsMessageTold : Option Message → Editor → Option Message → Editor → Type 0
-IsMessageTold None old left new = (left ≡ None) × (new ≡ old)
-IsMessageTold (Some trouble) old left new =
+abbrev pub IsTroubleTold : Option Message → Editor → Option Message → Editor → Type 0
+IsTroubleTold None old left new = (left ≡ None) × (new ≡ old)
+IsTroubleTold (Some trouble) old left new =
     ((message_of old ≡ message.Nothing) × (left ≡ None) × (new ≡ with_message old trouble))
     ⊎ ((message_of old ≢ message.Nothing) × (left ≡ Some trouble) × (new ≡ old))
 
@@ -131,7 +131,7 @@ is_writing storage = not storage.is_off && not storage.is_kept
 pub record IsMade (old : Storage) (editor : Editor) (new : Storage) (shown : Editor) : Type 0 where
   pub trouble : Option Message
   pub brought : IsBrought (needs_write old editor) trouble old editor new
-  pub told : IsMessageTold trouble editor new.untold shown
+  pub told : IsTroubleTold trouble editor new.untold shown
   pub rest : new ≡ record old {
     times = none_noted;
     journal = new.journal;
@@ -142,7 +142,7 @@ pub record IsMade (old : Storage) (editor : Editor) (new : Storage) (shown : Edi
 
 -- what is still to be told is told, and nothing is written
 pub record IsOnlyTold (old : Storage) (editor : Editor) (new : Storage) (shown : Editor) : Type 0 where
-  pub told : IsMessageTold old.untold editor new.untold shown
+  pub told : IsTroubleTold old.untold editor new.untold shown
   pub rest : new ≡ record old { times = none_noted; untold = new.untold }
 
 abbrev pub IsWriteIf : Bool → Storage → Editor → Storage → Editor → Type 0
@@ -176,7 +176,7 @@ abbrev pub IsRestOfSave : Bool → Storage → Storage → Type 0
 IsRestOfSave true old new = new ≡ record (ended old) { file = new.file; locked = new.locked }
 IsRestOfSave false old new = new ≡ record old { file = new.file }
 
-pub record IsStored (old : Storage) (saving : SaveRequest) (end : SaveEnd) (new : Storage) : Type 0 where
+pub record IsSaveDone (old : Storage) (saving : SaveRequest) (end : SaveEnd) (new : Storage) : Type 0 where
   pub saved : IsSaveOf old.file (string_bytes saving.name) (string_bytes saving.text) saving.overwrites end new.file
   pub rest : IsRestOfSave (is_saved end) old new
 
@@ -194,7 +194,7 @@ pub record GoesOnWith (text : List ℕ) (old new : Editor) : Type 0 where
 
 -- the journal goes on after its records, and the message has the control characters in the text
 pub record IsJournalResumed (text : List ℕ) (old new : Storage) (after : Editor) : Type 0 where
-  pub known : IsSomeAnd new.journal (HasJournalText text)
+  pub known : IsSomeAnd new.journal (MakesText text)
   pub rest : new ≡ record old { offered = None; journal = new.journal; is_kept = false }
   pub counted : IsCountShown (draft_of after).area message.Nothing (message_of after)
 

@@ -1,9 +1,12 @@
 //! What is kept of a text on disk: its file, and the journal of its unsaved changes.
 
 ghost use Rattle.std.specs.Duration.{as_nanos};
-ghost use Rattle.std.specs.Prelude.{◌≡◌};
+ghost use Rattle.std.specs.Option.{IsSomeAnd};
+ghost use Rattle.std.specs.Prelude.{◌≡◌, true};
 ghost use Rattle.textarea_editor.specs.Openings.{IsOpening};
-ghost use Rattle.textarea_editor.specs.Storage.{IsNoted, IsRecovery, IsRestoration, IsStored, IsWrite, ended, journal_given_up, is_write_due};
+ghost use Rattle.textarea_editor.specs.Storage.{IsNoted, IsRecovery, IsRestoration, IsSaveDone, IsWrite, MakesTextOf, ended, is_write_due, is_writing, journal_given_up, needs_write};
+ghost use Rattle.textarea_editor.specs.declared.editor.Editor.{Editor};
+ghost use Rattle.textarea_editor.specs.declared.storage.Storage.{Storage};
 
 mod opening;
 mod writing;
@@ -166,7 +169,7 @@ impl Storage {
 
     /// Carries out a save, as [`DiskFile::save`] does, and then removes the journal.
     pub fn save(&mut self, rt: &HostRuntime, saving: &SaveRequest) -> SaveEnd
-        ensures { IsStored self.old saving.now result self.new }
+        ensures { IsSaveDone self.old saving.now result self.new }
     {
         let name = saving.name();
         let end = self.file.save(rt, name, saving.text(), saving.overwrites());
@@ -191,3 +194,11 @@ impl Storage {
         }
     }
 }
+
+/// After a write that others may follow, the journal has the editor's text, if that has a name, and
+/// was changed or had a journal.
+pub fn journal_has_the_text()
+    ensures { (old new : Storage) (editor shown : Editor) → IsWrite old editor new shown
+        → needs_write old editor ≡ true → is_writing new ≡ true
+        → IsSomeAnd new.journal (MakesTextOf editor) }
+{}

@@ -125,9 +125,9 @@ pub(crate) trait CarriesOut {
 }
 
 impl CarriesOut for JournalFile {
-    ghost use Rattle.textarea_editor.specs.JournalFiles.{IsWritten};
+    ghost use Rattle.textarea_editor.specs.JournalFiles.{IsJournalWrite};
 
-    ghost writes = { IsWritten };
+    ghost writes = { IsJournalWrite };
 
     fn carry_out(&mut self, rt: &HostRuntime, name: &str, write: &JournalWrite) -> io::Result<()> {
         let bytes = write.bytes.as_slice();

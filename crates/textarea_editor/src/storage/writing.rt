@@ -1,6 +1,6 @@
 // Writes of the journal.
 ghost use Rattle.std.specs.Prelude.{◌≡◌, IfSome, None, is_none};
-ghost use Rattle.textarea_editor.specs.Storage.{HasJournalTextOf, IsBrought, IsJournalTrouble, IsTried, IsWriteDone, KeepsAllButJournal, journal_trouble, needs_write};
+ghost use Rattle.textarea_editor.specs.Storage.{MakesTextOf, IsBrought, IsJournalTrouble, IsTried, IsWriteDone, KeepsAllButJournal, journal_trouble, needs_write};
 
 use super::Storage;
 use crate::disk::journal_file::CarriesOut;
@@ -57,7 +57,7 @@ fn write_text<F: CarriesOut>(
     editor: &Editor,
     name: &str,
 ) -> Option<Message>
-    ensures made { result ≡ None → HasJournalTextOf editor.now journal.new }
+    ensures made { result ≡ None → MakesTextOf editor.now journal.new }
     ensures carried { IsWriteDone F.writes file.old journal.old result file.new journal.new }
     ensures failed { IfSome result IsJournalTrouble }
 {
