@@ -160,6 +160,15 @@ narrow_from : (c : ℕ) → is_narrow c ≡ true → 0x20 ≤ c
 unfolding in_ranges
 narrow_from c is = grind (arith, nat_tests)
 
+-- of ASCII, all but control characters are letters
+pub control-no_letter : (c : ℕ) → c < 0x20 → letter_columns c ≡ 0
+unfolding in_ranges
+control-no_letter c below = grind (arith, nat_tests)
+
+pub ascii-letter : (c : ℕ) → 0x20 ≤ c → c < 0x7F → letter_columns c ≡ 1
+unfolding in_ranges
+ascii-letter c from below = grind (arith, nat_tests)
+
 narrow_above : (c : ℕ) → is_narrow c ≡ true → 0x7F ≤ c → 0xA0 ≤ c
 unfolding in_ranges
 narrow_above c is above = grind (arith, nat_tests)

@@ -13,7 +13,7 @@ use Rattle.textarea_paint.specs.Simple.{begins_apart, is_flag_half}
 
 -- accents, and marks of Cyrillic, Hebrew and Arabic
 abbrev pub early_marks : List Range
-early_marks = (0x300, 0x36F) ∷ (0x483, 0x489) ∷ (0x591, 0x5BD) ∷ (0x64B, 0x65F) ∷ []
+early_marks = (0x300, 0x36F) ∷ (0x483, 0x489) ∷ (0x591, 0x5BD) ∷ (0x5BF, 0x5BF) ∷ (0x5C1, 0x5C2) ∷ (0x610, 0x61A) ∷ (0x64B, 0x65F) ∷ (0x670, 0x670) ∷ []
 
 -- more accents, marks of signs and of kana, and selectors of a picture's form. There are other marks.
 abbrev pub late_marks : List Range

@@ -8,7 +8,7 @@ use super::simple::{Front, begins_apart, is_within, split_before};
 
 /// The number of characters of ASCII that follow each other before letters end: such characters by
 /// themselves are drawn faster.
-const MOST_PLAIN: usize = 16;
+const MOST_PLAIN: usize = 6;
 
 /// Splits letters of the same number of columns off the start of a text, at most `most`. Each of
 /// them is a cluster.
@@ -113,7 +113,11 @@ pub(super) fn split_letter<'a>(text: &'a str) -> (&'a str, &'a str)
 pub(super) fn letter_columns(c: char) -> usize
     ensures { result ≡ letter_columns c }
 {
-    if c < '\u{3000}' {
+    if c < ' ' {
+        0
+    } else if c < '\u{7F}' {
+        1
+    } else if c < '\u{3000}' {
         usize::from(is_narrow(c))
     } else if is_wide(c) {
         2

@@ -201,8 +201,12 @@ fn is_early_mark(c: char) -> bool
     let accents = is_within(c, '\u{300}', '\u{36F}');
     let cyrillic = is_within(c, '\u{483}', '\u{489}');
     let hebrew = is_within(c, '\u{591}', '\u{5BD}');
+    let rafe = is_within(c, '\u{5BF}', '\u{5BF}');
+    let dots = is_within(c, '\u{5C1}', '\u{5C2}');
+    let signs = is_within(c, '\u{610}', '\u{61A}');
     let arabic = is_within(c, '\u{64B}', '\u{65F}');
-    accents | cyrillic | hebrew | arabic
+    let alef = is_within(c, '\u{670}', '\u{670}');
+    accents | cyrillic | hebrew | rafe | dots | signs | arabic | alef
 }
 
 /// Returns whether the character is in one of the later ranges of marks, which have more accents,

@@ -6,5 +6,5 @@ use Rattle.textarea_paint.proofs.paint.units.is_early_mark.Goals as goal
 pub returns : goal.returns
 unfolding in_ranges
 returns c =
-    rw (c.is_within-accents.ensures, c.is_within-cyrillic.ensures, c.is_within-hebrew.ensures, c.is_within-arabic.ensures)
+    rw (c.is_within-accents.ensures, c.is_within-cyrillic.ensures, c.is_within-hebrew.ensures, c.is_within-rafe.ensures, c.is_within-dots.ensures, c.is_within-signs.ensures, c.is_within-arabic.ensures, c.is_within-alef.ensures)
     (simp (or_assoc, or-false) refl)
