@@ -71,8 +71,8 @@ pub fn rows_of(
     Ok(rows)
 }
 
-/// Returns the rows of a line that replaces another one, `old_line`, whose rows are `old`. The same as
-/// `rows_of`, but only what the change may have changed is wrapped. Adds one to `count`.
+/// Returns the rows of a line that replaces another one, `old_line`, whose rows are `old`. The same
+/// as `rows_of`, but only what the change may have changed is wrapped. Adds one to `count`.
 pub fn rows_of_changed(
     alloc: Global,
     line: &str,

@@ -13,7 +13,7 @@ use Rattle.ucd_derived.specs.declared.IndicConjunctBreak.TheVariants as conjunct
 use Rattle.ucd_emoji.specs.Binary.{is_extended_pictographic}
 use Rattle.textarea_wrap.specs.WrapResult.{IsWrapped}
 use Rattle.textarea_wrap.specs.declared.wrap.WrapMode.{WrapMode}
-use Rattle.textarea_wrap.specs.declared.wrap.kept.Meeting.{Meeting}
+use Rattle.textarea_wrap.specs.declared.wrap.meeting.Meeting.{Meeting}
 use Rattle.textarea_wrap.specs.declared.wrap.WrapMode.TheVariants as mode
 
 -- ---- between words

@@ -4,8 +4,9 @@ ghost use Rattle.textarea_wrap.specs.Prelude.{size_limit, marks_of, HasFewestRow
 
 use self::columns::fits_width;
 use self::glyphs::push_glyph_rows;
-use self::kept::{kept_count, rewrap, same_start};
+use self::kept::{kept_count, same_start};
 use self::marks::{push_marks, push_marks_after};
+use self::meeting::rewrap;
 use self::units::collect_units;
 use self::words::push_word_rows;
 pub use crate::count::WrapCount;
@@ -19,6 +20,8 @@ pub mod columns;
 mod glyphs;
 mod kept;
 mod marks;
+mod meeting;
+mod partings;
 mod units;
 mod words;
 
@@ -82,9 +85,9 @@ pub fn line_ranges(
     Rows::counted(wrapped, count)
 }
 
-/// Wraps a line after an edit, and returns the rows that `line_ranges` returns. `old` has the rows of
-/// the line before the edit, which was `old_line`, in the same mode, at the same width and tab
-/// length. Rows that the edit doesn't change are copied, and only the text after them is wrapped.
+/// Wraps a line after an edit, and returns the rows that `line_ranges` returns. `old` has the rows
+/// of the line before the edit, which was `old_line`, in the same mode, at the same width and tab
+/// length. Rows that the edit doesn't change are copied, and only the text between is wrapped.
 pub fn line_ranges_after(
     alloc: Global,
     line: &str,

@@ -3,7 +3,7 @@ use Rattle.std.specs.Str.{chars}
 use Rattle.std.specs.Char.{IsScalar}
 use Rattle.std.proofs.lemmas.Str.{IsUtf8-drop, IsUtf8-take, chars_past_char}
 use Rattle.textarea_wrap.proofs.KeptRowLemmas.{last_char}
-use Rattle.textarea_wrap.proofs.wrap.kept.is_parting.Goals as goal
+use Rattle.textarea_wrap.proofs.wrap.partings.is_parting.Goals as goal
 
 pub returns : goal.returns
 returns c = λ yes.

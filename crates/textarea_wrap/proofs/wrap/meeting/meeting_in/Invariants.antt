@@ -1,5 +1,5 @@
 use Rattle.std.proofs.Common.{◌<◌, ◌-◌, length}
-use Rattle.textarea_wrap.proofs.wrap.kept.meeting_in.Given as goal
+use Rattle.textarea_wrap.proofs.wrap.meeting.meeting_in.Given as goal
 
 abbrev pub invariant-windows : goal.invariant-windows
 invariant-windows l = 0 < l.size

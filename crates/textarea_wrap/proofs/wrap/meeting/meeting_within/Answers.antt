@@ -4,7 +4,7 @@ use Rattle.textarea_wrap.specs.Prelude.{IsRowRange, IsWrapped}
 use Rattle.textarea_wrap.specs.Partings.{ArePartings}
 use Rattle.textarea_util.proofs.Alls.{all_at}
 use Rattle.textarea_wrap.proofs.KeptRowLemmas.{IsWrapped-meeting}
-use Rattle.textarea_wrap.proofs.wrap.kept.meeting_within.Goals as goal
+use Rattle.textarea_wrap.proofs.wrap.meeting.meeting_within.Goals as goal
 
 pub returns-in-Some : goal.returns-in-Some
 returns-in-Some c =

@@ -2,7 +2,7 @@ use Rattle.std.proofs.Common.{◌≡◌, ◌-◌, ap, ◌∙◌, arith, get_or, 
 use Rattle.textarea_wrap.specs.Prelude.{IsRowRange}
 use Rattle.textarea_util.proofs.Alls.{all_at}
 use Rattle.textarea_wrap.proofs.MarkLemmas.{rows_ordered}
-use Rattle.textarea_wrap.proofs.wrap.kept.rewrap.Goals as goal
+use Rattle.textarea_wrap.proofs.wrap.meeting.rewrap.Goals as goal
 
 pub push_meeting-requires-clause-rows : goal.push_meeting-requires-clause-rows
 push_meeting-requires-clause-rows c = λ k after within.

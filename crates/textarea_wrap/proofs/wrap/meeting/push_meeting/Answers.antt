@@ -3,7 +3,7 @@ use Rattle.std.proofs.lemmas.List.{take_rest}
 use Rattle.std.proofs.lemmas.Result.{on_ok_weaker}
 use Rattle.textarea_wrap.specs.Partings.{moved}
 use Rattle.textarea_wrap.proofs.KeptRowLemmas.{moved_met}
-use Rattle.textarea_wrap.proofs.wrap.kept.push_meeting.Goals as goal
+use Rattle.textarea_wrap.proofs.wrap.meeting.push_meeting.Goals as goal
 
 pub returns : goal.returns
 returns c =
