@@ -34,7 +34,7 @@ from ._enums import (
     WrapMode,
 )
 
-__version__ = "0.15.0"
+__version__ = "0.16.0"
 __all__ = [
     "TextArea", "Input", "Key", "Move", "Page", "Side", "Range", "Reason", "RangesRejected",
     "PatternRejected", "WrapMode", "Alignment", "Measure", "Viewport", "Area", "Cell",
