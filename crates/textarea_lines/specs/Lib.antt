@@ -5,4 +5,5 @@ pub mod Replacing
 pub mod TextRows
 pub mod View
 pub mod LineWraps
+pub mod AtOnce
 pub mod Prelude

@@ -3,7 +3,7 @@ pub use Rattle.textarea_util.specs.Limit.{size_limit}
 pub use Rattle.textarea_text.specs.Offset.{offset_at}
 pub use Rattle.textarea_text.specs.Place.{IsPlace, Place}
 pub use Rattle.textarea_text.specs.Size.{size_of, weight}
-pub use Rattle.textarea_text.specs.Splice.{Fits, Splice, applied}
+pub use Rattle.textarea_text.specs.Splice.{CanApply, Fits, Splice, applied}
 pub use Rattle.textarea_text.specs.Text.{Symbol, lines, lines_of, text_of}
 pub use Rattle.textarea_text.specs.Touched.{breaks_of}
 pub use Rattle.textarea_wrap.specs.RowsView.{RowsView}
@@ -13,6 +13,7 @@ pub use Rattle.textarea_screen_map.specs.BorrowedLines.{BorrowedRows}
 pub use Rattle.textarea_screen_map.specs.LineRows.{AreRowsOf, ticks_after, ticks_of}
 pub use Rattle.textarea_screen_map.specs.Map.{IsRowCount}
 pub use Rattle.textarea_screen_map.specs.VisualPositions.{IsVisualPosition}
+pub use Rattle.textarea_lines.specs.AtOnce.{IsChangedFrom, WrapsAtOnce, applied_each, numbered, wrapped_once}
 pub use Rattle.textarea_lines.specs.LineWraps.{WrapsAllLines, WrapsForSettings, WrapsForSplice, WrapsForSplices, WrapsForWidth}
 pub use Rattle.textarea_lines.specs.Replacing.{AreReadyRows, CanReplace}
 pub use Rattle.textarea_lines.specs.Stored.{size_after}

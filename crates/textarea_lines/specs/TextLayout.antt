@@ -1,5 +1,5 @@
 -- What contracts see of lines with their rows, and how a change of the text changes it.
-use Rattle.std.specs.Prelude.{ℕ, ◌+◌, ◌-◌, Bool, List, String, length, vec_len, if◌then◌else◌}
+use Rattle.std.specs.Prelude.{ℕ, ◌+◌, ◌-◌, Bool, List, String, Option, None, length, option_map, replicate, vec_len, if◌then◌else◌}
 use Rattle.std.specs.declared.alloc.Global.{Global}
 use Rattle.textarea_text.specs.Text.{Symbol, joined, lines, lines_of}
 use Rattle.textarea_util.specs.Replaced.{replaced}
@@ -13,23 +13,26 @@ use Rattle.textarea_lines.specs.declared.settings.LayoutSettings.{LayoutSettings
 use Rattle.textarea_lines.specs.Wrappings.{wrapped_at_width, is_same_wrapping, wrapping_for}
 
 -- The settings, the number of lines wrapped so far, and for each line the counter's number after
--- the call that wrapped it. The rows are not included: they are right for the current text.
+-- the call that wrapped it. If lines are numbered, also where each comes from: the number, from 0,
+-- that it got, or `None` if a splice touched it since. The rows are not included: they are right for
+-- the current text.
 pub record Layout : Type 0 where
   pub settings : LayoutSettings
   pub count : ℕ
   pub ticks : List ℕ
+  pub origins : Option (List (Option ℕ))
 
 -- the layout of a text with these rows
-abbrev pub layout_of : LayoutSettings → ℕ → List RowsView → Layout
-layout_of settings count rows = record { settings = settings; count = count; ticks = ticks_of rows }
+abbrev pub layout_of : LayoutSettings → ℕ → List RowsView → Option (List (Option ℕ)) → Layout
+layout_of settings count rows origins = record { settings = settings; count = count; ticks = ticks_of rows; origins = origins }
 
 pub record TextAndLayout : Type 0 where
   pub text : List Symbol
   pub layout : Layout
 
--- all `line_count` lines are wrapped, from the first on
+-- all `line_count` lines are wrapped, from the first on, and not numbered
 abbrev pub all_wrapped : LayoutSettings → ℕ → ℕ → Layout
-all_wrapped settings count line_count = record { settings = settings; count = count + line_count; ticks = ticks_after count line_count }
+all_wrapped settings count line_count = record { settings = settings; count = count + line_count; ticks = ticks_after count line_count; origins = None }
 
 -- `coming` lines are wrapped and replace those from the row on; all others keep their rows
 abbrev pub some_wrapped : Layout → ℕ → ℕ → ℕ → Layout
@@ -37,17 +40,36 @@ some_wrapped layout row removed_lines coming = record {
   settings = layout.settings;
   count = layout.count + coming;
   ticks = replaced layout.ticks row removed_lines (ticks_after layout.count coming);
+  origins = layout.origins;
 }
 
--- Some lines are replaced: only these are wrapped, or all lines if the wrapping changes.
+-- Some lines are replaced: only these are wrapped, or all lines if the wrapping changes. What the
+-- layout tells of where lines come from doesn't change.
 abbrev pub after_replacement : Layout → ℕ → ℕ → ℕ → ℕ → Layout
 after_replacement layout line_count row removed_lines coming =
     let after : ℕ = line_count - removed_lines + coming in
-    if is_same_wrapping (wrapping_for layout.settings after) (wrapping_for layout.settings line_count) then some_wrapped layout row removed_lines coming else all_wrapped layout.settings layout.count after
+    if is_same_wrapping (wrapping_for layout.settings after) (wrapping_for layout.settings line_count) then some_wrapped layout row removed_lines coming else (record (all_wrapped layout.settings layout.count after) { origins = layout.origins })
+
+-- where lines come from, after some are replaced by `coming` lines
+abbrev pub origins_replaced : List (Option ℕ) → ℕ → ℕ → ℕ → List (Option ℕ)
+origins_replaced origins row removed_lines coming = replaced origins row removed_lines (replicate coming None)
+
+-- where lines come from, after a splice
+abbrev pub origins_spliced : List (Option ℕ) → Splice → List (Option ℕ)
+origins_spliced origins splice = origins_replaced origins splice.place.0 (replaced_line_count splice) (new_line_count splice)
+
+-- the layout of a text of `line_count` lines after a splice, but for where lines come from
+abbrev pub after_lines_spliced : Layout → ℕ → Splice → Layout
+after_lines_spliced layout line_count splice = after_replacement layout line_count splice.place.0 (replaced_line_count splice) (new_line_count splice)
 
 -- the layout of a text of `line_count` lines after a splice
 abbrev pub after_splice : Layout → ℕ → Splice → Layout
-after_splice layout line_count splice = after_replacement layout line_count splice.place.0 (replaced_line_count splice) (new_line_count splice)
+after_splice layout line_count splice =
+    record (after_lines_spliced layout line_count splice) { origins = option_map (λ (origins : List (Option ℕ)). origins_spliced origins splice) layout.origins }
+
+-- the text and its layout after a splice, but for where lines come from
+abbrev pub lines_spliced : TextAndLayout → Splice → TextAndLayout
+lines_spliced text_layout splice = record { text = applied text_layout.text splice; layout = after_lines_spliced text_layout.layout (length (lines text_layout.text)) splice }
 
 -- the text and its layout after a splice
 abbrev pub applied_to : TextAndLayout → Splice → TextAndLayout
@@ -100,9 +122,10 @@ at_width text_layout inner_width = record {
   inner_width = inner_width;
 }
 
--- the text with other settings; all lines are wrapped again if these wrap them in another way
+-- The text with other settings. If these wrap lines in another way, all are wrapped again, and not
+-- numbered any more.
 abbrev pub with_settings : TextAndLayout → LayoutSettings → TextAndLayout
 with_settings text_layout settings =
     if keeps_wrapping text_layout settings then
-    (record { text = text_layout.text; layout = record { settings = settings; count = text_layout.layout.count; ticks = text_layout.layout.ticks } })
+    (record { text = text_layout.text; layout = record text_layout.layout { settings = settings } })
     else layout_from_scratch settings text_layout.layout.count text_layout.text
