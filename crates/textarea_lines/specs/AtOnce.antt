@@ -7,28 +7,28 @@ use Rattle.textarea_text.specs.Text.{lines}
 use Rattle.textarea_wrap.specs.RowsView.{RowsView}
 use Rattle.textarea_lines.specs.declared.settings.LayoutSettings.{LayoutSettings}
 use Rattle.textarea_lines.specs.LineWraps.{WrapsAllLines, map_width}
-use Rattle.textarea_lines.specs.TextLayout.{Layout, TextAndLayout, all_wrapped, applied_to, origins_spliced}
+use Rattle.textarea_lines.specs.TextLayout.{Layout, Origins, TextAndLayout, all_wrapped, applied_to, origins_spliced}
 use Rattle.textarea_lines.specs.TextRows.{HasLayout}
 use Rattle.textarea_lines.specs.Wrappings.{is_same_wrapping, wrapping_for}
 
 -- ---- where lines come from
 
 -- each of `line_count` lines is itself: the first is the line 0
-abbrev pub first_origins : ℕ → List (Option ℕ)
+abbrev pub first_origins : ℕ → Origins
 first_origins line_count = map Some (range_with_len 0 line_count)
 
 -- where lines come from after splices, one after another
-abbrev pub origins_after : List (Option ℕ) → List Splice → List (Option ℕ)
+abbrev pub origins_after : Origins → List Splice → Origins
 origins_after origins [] = origins
 origins_after origins (splice ∷ splices) = origins_after (origins_spliced origins splice) splices
 
 -- For each line after the splices, the number, from 0, of the line that it was before all of them, or
 -- `None` if one of them touched it. There were `line_count` lines before.
-abbrev pub line_origins : ℕ → List Splice → List (Option ℕ)
+abbrev pub line_origins : ℕ → List Splice → Origins
 line_origins line_count splices = origins_after (first_origins line_count) splices
 
 -- the number of lines that a splice touched
-abbrev pub touched_count : List (Option ℕ) → ℕ
+abbrev pub touched_count : Origins → ℕ
 touched_count [] = 0
 touched_count (Some line ∷ origins) = touched_count origins
 touched_count (None ∷ origins) = touched_count origins + 1
@@ -70,13 +70,13 @@ pub record IsChangedFrom (before changed : TextAndLayout) : Type 0 where
 
 -- The ticks of lines that come from there, where `ticks` are those of the lines before: a line that
 -- no splice touched keeps its tick, and each other has the next one after `count`.
-abbrev pub ticks_at_once : List ℕ → ℕ → List (Option ℕ) → List ℕ
+abbrev pub ticks_at_once : List ℕ → ℕ → Origins → List ℕ
 ticks_at_once ticks count [] = []
 ticks_at_once ticks count (Some line ∷ origins) = get_or ticks line 0 ∷ ticks_at_once ticks count origins
 ticks_at_once ticks count (None ∷ origins) = (count + 1) ∷ ticks_at_once ticks (count + 1) origins
 
 -- the layout of lines that come from there: only those are wrapped that a splice touched
-abbrev pub touched_wrapped : Layout → List (Option ℕ) → Layout
+abbrev pub touched_wrapped : Layout → Origins → Layout
 touched_wrapped layout origins = record {
   settings = layout.settings;
   count = layout.count + touched_count origins;
@@ -104,7 +104,7 @@ wrapped_once before changed =
 
 -- Each line that no splice touched has the rows that it had before, tick included. The others have
 -- the next ticks after `count`, in order.
-abbrev pub KeepsUntouched : ℕ → List (Option ℕ) → List RowsView → List RowsView → Type 0
+abbrev pub KeepsUntouched : ℕ → Origins → List RowsView → List RowsView → Type 0
 KeepsUntouched count [] before [] = Unit {0}
 KeepsUntouched count [] before (rows ∷ after) = ⊥
 KeepsUntouched count (origin ∷ origins) before [] = ⊥

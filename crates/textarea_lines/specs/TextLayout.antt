@@ -1,5 +1,5 @@
 -- What contracts see of lines with their rows, and how a change of the text changes it.
-use Rattle.std.specs.Prelude.{ℕ, ◌+◌, ◌-◌, Bool, List, String, Option, None, length, option_map, replicate, vec_len, if◌then◌else◌}
+use Rattle.std.specs.Prelude.{ℕ, ◌+◌, ◌-◌, Bool, List, String, Option, None, length, option_map, replicate, Vec, vec_len, if◌then◌else◌}
 use Rattle.std.specs.declared.alloc.Global.{Global}
 use Rattle.textarea_text.specs.Text.{Symbol, joined, lines, lines_of}
 use Rattle.textarea_util.specs.Replaced.{replaced}
@@ -12,18 +12,26 @@ use Rattle.textarea_screen_map.specs.declared.layout.Wrapping.{Wrapping}
 use Rattle.textarea_lines.specs.declared.settings.LayoutSettings.{LayoutSettings}
 use Rattle.textarea_lines.specs.Wrappings.{wrapped_at_width, is_same_wrapping, wrapping_for}
 
+-- Where lines come from: for each the number, from 0, of the line that it was when lines were
+-- numbered, or `None` if a splice touched it since.
+abbrev pub Origins : Type 0
+Origins = List (Option ℕ)
+
 -- The settings, the number of lines wrapped so far, and for each line the counter's number after
--- the call that wrapped it. If lines are numbered, also where each comes from: the number, from 0,
--- that it got, or `None` if a splice touched it since. The rows are not included: they are right for
--- the current text.
+-- the call that wrapped it; if lines are numbered, also where they come from. The rows are not
+-- included: they are right for the current text.
 pub record Layout : Type 0 where
   pub settings : LayoutSettings
   pub count : ℕ
   pub ticks : List ℕ
-  pub origins : Option (List (Option ℕ))
+  pub origins : Option Origins
+
+-- where the lines of a text come from, as it stores that
+abbrev pub origins_of : {A : Type 0} → Option (Vec (Option ℕ) A) → Option Origins
+origins_of {A} origins = option_map (λ (v : Vec (Option ℕ) A). v.items) origins
 
 -- the layout of a text with these rows
-abbrev pub layout_of : LayoutSettings → ℕ → List RowsView → Option (List (Option ℕ)) → Layout
+abbrev pub layout_of : LayoutSettings → ℕ → List RowsView → Option Origins → Layout
 layout_of settings count rows origins = record { settings = settings; count = count; ticks = ticks_of rows; origins = origins }
 
 pub record TextAndLayout : Type 0 where
@@ -51,11 +59,11 @@ after_replacement layout line_count row removed_lines coming =
     if is_same_wrapping (wrapping_for layout.settings after) (wrapping_for layout.settings line_count) then some_wrapped layout row removed_lines coming else (record (all_wrapped layout.settings layout.count after) { origins = layout.origins })
 
 -- where lines come from, after some are replaced by `coming` lines
-abbrev pub origins_replaced : List (Option ℕ) → ℕ → ℕ → ℕ → List (Option ℕ)
+abbrev pub origins_replaced : Origins → ℕ → ℕ → ℕ → Origins
 origins_replaced origins row removed_lines coming = replaced origins row removed_lines (replicate coming None)
 
 -- where lines come from, after a splice
-abbrev pub origins_spliced : List (Option ℕ) → Splice → List (Option ℕ)
+abbrev pub origins_spliced : Origins → Splice → Origins
 origins_spliced origins splice = origins_replaced origins splice.place.0 (replaced_line_count splice) (new_line_count splice)
 
 -- the layout of a text of `line_count` lines after a splice, but for where lines come from
@@ -65,7 +73,7 @@ after_lines_spliced layout line_count splice = after_replacement layout line_cou
 -- the layout of a text of `line_count` lines after a splice
 abbrev pub after_splice : Layout → ℕ → Splice → Layout
 after_splice layout line_count splice =
-    record (after_lines_spliced layout line_count splice) { origins = option_map (λ (origins : List (Option ℕ)). origins_spliced origins splice) layout.origins }
+    record (after_lines_spliced layout line_count splice) { origins = option_map (λ (origins : Origins). origins_spliced origins splice) layout.origins }
 
 -- the text and its layout after a splice, but for where lines come from
 abbrev pub lines_spliced : TextAndLayout → Splice → TextAndLayout
@@ -122,10 +130,16 @@ at_width text_layout inner_width = record {
   inner_width = inner_width;
 }
 
--- The text with other settings. If these wrap lines in another way, all are wrapped again, and not
--- numbered any more.
+-- all lines are wrapped again, by these settings
+abbrev pub rewrapped : TextAndLayout → LayoutSettings → TextAndLayout
+rewrapped text_layout settings = record {
+  text = text_layout.text;
+  layout = record (all_wrapped settings text_layout.layout.count (length (lines text_layout.text))) { origins = text_layout.layout.origins };
+}
+
+-- the text with other settings; all lines are wrapped again if these wrap them in another way
 abbrev pub with_settings : TextAndLayout → LayoutSettings → TextAndLayout
 with_settings text_layout settings =
     if keeps_wrapping text_layout settings then
     (record { text = text_layout.text; layout = record text_layout.layout { settings = settings } })
-    else layout_from_scratch settings text_layout.layout.count text_layout.text
+    else rewrapped text_layout settings
