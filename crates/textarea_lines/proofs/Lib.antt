@@ -16,3 +16,6 @@ mod Splicing
 mod SplicedRows
 mod Wrapping
 pub mod Positions
+mod ComingLines
+mod RowsOnce
+mod WrappingOnce
