@@ -29,6 +29,7 @@ use Rattle.tui_textarea.proofs.Frames.{drawn_document}
 use Rattle.textarea_data.specs.declared.range.AtomicCursorBias.TheVariants.{Forward}
 use Rattle.tui_textarea.specs.Ranges.{ranges_accepted}
 use Rattle.tui_textarea.specs.Units.{settled}
+use Rattle.tui_textarea.proofs.Replacing.{AtOnce, at_once_by}
 use Rattle.tui_textarea.proofs.Settling.{LayoutAndRanges, Visible, layout_and_ranges, settled_layout, settled_text, visible}
 use Rattle.tui_textarea.proofs.Stepping.{Reckoning}
 
