@@ -1,13 +1,13 @@
 -- Where lines come from after splices: a line that no splice touched is the same as before.
-use Rattle.std.proofs.lemmas.Grind.{common_steps}
-use Rattle.std.proofs.Common.{◌≡◌, ℕ, zero, suc, ◌+◌, List, [], ◌∷◌, ◌++◌, Option, Some, None, length, take, drop, map, replicate, unwrap_or, option_map, ap, refl, sym, subst, ◌∙◌, arith}
+use Rattle.std.proofs.Common.{◌≡◌, ℕ, zero, suc, ◌+◌, ◌<◌, List, [], ◌∷◌, ◌++◌, Option, Some, None, length, take, drop, get_or, map, replicate, option_map, ap, refl, sym, subst, ◌∙◌, arith}
 use Rattle.std.specs.List.{AllZip, range_with_len, slice_get}
 use Rattle.std.specs.Option.{IfSome}
 use Rattle.std.proofs.lemmas.List.{append_assoc, length-append}
 use Rattle.textarea_util.specs.Replaced.{replaced}
-use Rattle.textarea_text.specs.Splice.{Splice, CanApply, applied, applied_all}
+use Rattle.textarea_text.specs.Splice.{Splice, CanApply, Fits, applied, applied_all}
 use Rattle.textarea_text.specs.Text.{Symbol, lines}
 use Rattle.textarea_text.specs.Touched.{new_line_count, replaced_line_count}
+use Rattle.textarea_history.proofs.UndoLaws.{CanApply-last}
 use Rattle.textarea_lines.specs.AtOnce.{IsChangedFrom, applied_each, first_origins, line_origins, numbered, origins_after}
 use Rattle.textarea_lines.specs.TextLayout.{Origins, TextAndLayout, applied_to, origins_spliced}
 use Rattle.textarea_lines.proofs.Splicing.{splices_lines}
@@ -36,6 +36,12 @@ zip-append R [] more [] others h k = k
 zip-append R [] more (y ∷ ys) others h k = absurd h
 zip-append R (x ∷ xs) more [] others h k = absurd h
 zip-append R (x ∷ xs) more (y ∷ ys) others h k = (h.0, zip-append R xs more ys others h.1 k)
+
+pub zip-at : {A B : Type 0} (R : A → B → Type 0) (xs : List A) (ys : List B) (i : ℕ) (d : A) (e : B) → AllZip R xs ys → i < length xs → R (get_or xs i d) (get_or ys i e)
+zip-at R [] ys i d e h within = absurd (omega arith)
+zip-at R (x ∷ xs) [] i d e h within = absurd h
+zip-at R (x ∷ xs) (y ∷ ys) zero d e h within = h.0
+zip-at R (x ∷ xs) (y ∷ ys) (suc i) d e h within = zip-at R xs ys i d e h.1 (omega arith)
 
 zip-replaced : {A B : Type 0} (R : A → B → Type 0) (row count : ℕ) (xs new : List A) (ys others : List B) → AllZip R xs ys → AllZip R new others → AllZip R (replaced xs row count new) (replaced ys row count others)
 zip-replaced R row count xs new ys others h k =
@@ -95,6 +101,10 @@ origins_applied text_layout [] origins e = e
 origins_applied text_layout (splice ∷ splices) origins e =
     origins_applied (applied_to text_layout splice) splices (origins_spliced origins splice) (ap (λ (o : Option Origins). option_map (λ (p : Origins). origins_spliced p splice) o) e)
 
+each-last : (text_layout : TextAndLayout) (splices : List Splice) (splice : Splice) → applied_each text_layout (splices ++ splice ∷ []) ≡ applied_to (applied_each text_layout splices) splice
+each-last text_layout [] splice = refl
+each-last text_layout (first ∷ splices) splice = each-last (applied_to text_layout first) splices splice
+
 -- the text of changed lines, and where they come from
 pub record ComeOnce (before changed : TextAndLayout) (splices : List Splice) : Type 0 where
   pub text : changed.text ≡ applied_all before.text splices
@@ -110,3 +120,11 @@ come_once before changed h =
       lines = subst (λ (t : List Symbol). AllZip (ComesFrom (lines before.text)) (line_origins (length (lines before.text)) h.splices) (lines t)) (sym text)
           (come_spliced (lines before.text) before.text h.splices (first_origins (length (lines before.text))) h.fit (each_comes [] (lines before.text) 0 refl));
     }
+
+-- one change more
+pub changed_more : (before changed : TextAndLayout) (splice : Splice) → IsChangedFrom before changed → Fits changed.text splice → IsChangedFrom before (applied_to changed splice)
+changed_more before changed splice h fits = record {
+  splices = h.splices ++ splice ∷ [];
+  fit = CanApply-last before.text h.splices splice h.fit (subst (λ (t : List Symbol). Fits t splice) (come_once before changed h).text fits);
+  leads = ap (λ (l : TextAndLayout). applied_to l splice) h.leads ∙ sym (each-last (numbered before) h.splices splice);
+}

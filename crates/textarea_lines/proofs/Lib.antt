@@ -19,3 +19,5 @@ pub mod Positions
 mod ComingLines
 mod RowsOnce
 mod WrappingOnce
+mod TouchedRows
+mod HeldOnce

@@ -1,16 +1,24 @@
 -- The rows of lines that are wrapped once, by where they come from.
-use Rattle.std.proofs.lemmas.Grind.{common_steps}
-use Rattle.std.proofs.Common.{◌≡◌, ℕ, zero, suc, ◌+◌, List, [], ◌∷◌, ◌++◌, Option, Some, None, length, map, get_or, encode_utf8_all, ap, refl, sym, subst, ◌∙◌, arith}
+use Rattle.std.proofs.Common.{◌≡◌, ℕ, zero, suc, ◌+◌, ◌-◌, ◌<◌, ◌≤◌, List, [], ◌∷◌, ◌++◌, Option, Some, None, length, map, take, drop, get_or, max, chars, String, string_bytes, Result, Ok, Err, encode_utf8_all, ap, ap₂, refl, sym, subst, ◌∙◌, arith}
 use Rattle.std.specs.List.{AllZip, slice_get}
+use Rattle.std.proofs.lemmas.List.{length-map, map-append, take_all, take_more}
+use Rattle.std.specs.Result.{IfOk, OnOk}
+use Rattle.std.specs.Str.{IsUtf8}
+use Rattle.std.proofs.Math.Seq.{take-add}
+use Rattle.textarea_util.specs.Limit.{size_limit}
+use Rattle.textarea_text.specs.Text.{characters_of, lines_of}
+use Rattle.textarea_text.proofs.StringRows.{line_at}
+use Rattle.textarea_wrap.specs.WrapResult.{IsWrapped}
 use Rattle.textarea_wrap.specs.Marks.{marks_of}
 use Rattle.textarea_wrap.specs.RowsView.{RowsView}
 use Rattle.textarea_screen_map.specs.LineRows.{AreRowsOf, AreRowsOfLine, ticks_of}
 use Rattle.textarea_screen_map.specs.Map.{MapView}
 use Rattle.textarea_screen_map.specs.declared.layout.Wrapping.{Wrapping}
+use Rattle.textarea_screen_map.proofs.Layouts.{AreRowsOf-append, AreRowsOfLine-text}
 use Rattle.textarea_lines.specs.AtOnce.{KeepsUntouched, ticks_at_once, touched_count}
-use Rattle.textarea_lines.specs.RowsAtOnce.{HaveOldRows}
+use Rattle.textarea_lines.specs.RowsAtOnce.{AreRowsAtOnce, HasOldRows, HaveOldRows}
 use Rattle.textarea_lines.specs.TextLayout.{Origins}
-use Rattle.textarea_lines.proofs.ComingLines.{ComesFrom}
+use Rattle.textarea_lines.proofs.ComingLines.{ComesFrom, zip-at}
 use Rattle.textarea_lines.proofs.OneList.{row_same}
 use Rattle.textarea_lines.proofs.SplicedRows.{OneMap}
 
@@ -40,7 +48,7 @@ have_old old before (Some number ∷ origins) (line ∷ now) right h = (rows_the
 -- ---- ticks and the count, of lines in two parts
 
 pub touched-append : (one other : Origins) → touched_count (one ++ other) ≡ touched_count one + touched_count other
-touched-append [] other = refl
+touched-append [] other = omega arith
 touched-append (Some number ∷ one) other = touched-append one other
 touched-append (None ∷ one) other = omega (arith, touched-append one other)
 
@@ -50,6 +58,83 @@ ticks-append ticks count (Some number ∷ one) other = ap (λ (t : List ℕ). ge
 ticks-append ticks count (None ∷ one) other =
     ap (λ (t : List ℕ). (count + 1) ∷ t)
     (ticks-append ticks (count + 1) one other ∙ ap (λ (n : ℕ). ticks_at_once ticks (count + 1) one ++ ticks_at_once ticks n other) (omega arith))
+
+-- ---- rows of lines in two parts
+
+pub no_rows : (old : MapView) (count : ℕ) → AreRowsAtOnce old count [] [] [] count
+no_rows old count = record { rows = tt; ticks = refl; counted = omega arith }
+
+pub rows-append :
+    (old : MapView) (count between after : ℕ) (lines more : List (List ℕ)) (origins others : Origins) (rows next : List RowsView)
+    → AreRowsAtOnce old count lines origins rows between → AreRowsAtOnce old between more others next after
+    → AreRowsAtOnce old count (lines ++ more) (origins ++ others) (rows ++ next) after
+rows-append old count between after lines more origins others rows next h k = record {
+  rows = AreRowsOf-append old.wrapping lines more rows next h.rows k.rows;
+  ticks = map-append (λ (r : RowsView). r.tick) rows next
+      ∙ ap₂ ◌++◌ h.ticks (k.ticks ∙ ap (λ (n : ℕ). ticks_at_once (ticks_of old.rows) n others) h.counted)
+      ∙ sym (ticks-append (ticks_of old.rows) count origins others);
+  counted = omega (arith, h.counted, k.counted, touched-append origins others);
+}
+
+-- lines up to another one
+pub rows-further :
+    (old : MapView) (count between after from to : ℕ) (lines : List (List ℕ)) (origins : Origins) (rows next : List RowsView) → from ≤ to
+    → AreRowsAtOnce old count (take from lines) (take from origins) rows between
+    → AreRowsAtOnce old between (take (to - from) (drop from lines)) (take (to - from) (drop from origins)) next after
+    → AreRowsAtOnce old count (take to lines) (take to origins) (rows ++ next) after
+rows-further old count between after from to lines origins rows next ordered h k =
+    let size : from + (to - from) ≡ to = omega (arith, ordered) in
+    let lines_to : take from lines ++ take (to - from) (drop from lines) ≡ take to lines = sym (take-add from (to - from) lines) ∙ ap (λ (n : ℕ). take n lines) size in
+    let origins_to : take from origins ++ take (to - from) (drop from origins) ≡ take to origins = sym (take-add from (to - from) origins) ∙ ap (λ (n : ℕ). take n origins) size in
+    subst (λ (l : List (List ℕ)). AreRowsAtOnce old count l (take to origins) (rows ++ next) after) lines_to
+    (subst (λ (o : Origins). AreRowsAtOnce old count (take from lines ++ take (to - from) (drop from lines)) o (rows ++ next) after) origins_to
+    (rows-append old count between after (take from lines) (take (to - from) (drop from lines)) (take from origins) (take (to - from) (drop from origins)) rows next h k))
+
+-- one line more
+pub rows-more :
+    {Z : Type 0} (old : MapView) (count between after i : ℕ) (items : List (String Z)) (line : String Z) (text : List ℕ) (origins : Origins) (rows : List RowsView) (next : RowsView)
+    → length origins ≡ length items → i < length items → line ≡ get_or items i line → text ≡ string_bytes line
+    → AreRowsAtOnce old count (take i (lines_of items)) (take i origins) rows between
+    → AreRowsAtOnce old between (chars text ∷ []) (get_or origins i None ∷ []) (next ∷ []) after
+    → AreRowsAtOnce old count (take (i + 1) (lines_of items)) (take (i + 1) origins) (rows ++ next ∷ []) after
+rows-more old count between after i items line text origins rows next long within read same h k =
+    let here : chars text ≡ get_or (lines_of items) i [] = ap chars same ∙ sym (line_at items i line within read) in
+    let lines_to : take i (lines_of items) ++ chars text ∷ [] ≡ take (i + 1) (lines_of items) =
+    ap (λ (l : List ℕ). take i (lines_of items) ++ l ∷ []) here ∙ sym (take_more (lines_of items) i [] (omega (arith, within, length-map items characters_of))) in
+    let origins_to : take i origins ++ get_or origins i None ∷ [] ≡ take (i + 1) origins = sym (take_more origins i None (omega (arith, within, long))) in
+    subst (λ (l : List (List ℕ)). AreRowsAtOnce old count l (take (i + 1) origins) (rows ++ next ∷ []) after) lines_to
+    (subst (λ (o : Origins). AreRowsAtOnce old count (take i (lines_of items) ++ chars text ∷ []) o (rows ++ next ∷ []) after) origins_to
+    (rows-append old count between after (take i (lines_of items)) (chars text ∷ []) (take i origins) (get_or origins i None ∷ []) rows (next ∷ []) h k))
+
+-- all lines
+pub whole :
+    {Z : Type 0} (old : MapView) (count after i : ℕ) (items : List (String Z)) (origins : Origins) (rows : List RowsView) → length origins ≡ length items → length items ≤ i
+    → AreRowsAtOnce old count (take i (lines_of items)) (take i origins) rows after → AreRowsAtOnce old count (lines_of items) origins rows after
+whole old count after i items origins rows long past h =
+    subst (λ (l : List (List ℕ)). AreRowsAtOnce old count l origins rows after) (take_all i (lines_of items) (omega (arith, past, length-map items characters_of)))
+    (subst (λ (o : Origins). AreRowsAtOnce old count (take i (lines_of items)) o rows after) (take_all i origins (omega (arith, past, long))) h)
+
+-- one line can keep the rows of the old one that it comes from
+pub has_old :
+    {Z : Type 0} (old : MapView) (items : List (String Z)) (origins : Origins) (i : ℕ) (line : String Z) (text : List ℕ) → length origins ≡ length items → i < length items
+    → line ≡ get_or items i line → text ≡ string_bytes line → HaveOldRows old origins (lines_of items) → HasOldRows old (get_or origins i None) (chars text)
+has_old old items origins i line text long within read same h =
+    subst (λ (l : List ℕ). HasOldRows old (get_or origins i None) l) (line_at items i line within read ∙ sym (ap chars same))
+    (zip-at (HasOldRows old) origins (lines_of items) i None [] h (omega (arith, within, long)))
+
+-- a line that is wrapped
+pub line_wrapped :
+    {E : Type 0} (old : MapView) (count after : ℕ) (text : List ℕ) (origin : Option ℕ) (w : Wrapping) (r : Result RowsView E) → origin ≡ None → w ≡ old.wrapping → IsUtf8 text
+    → IfOk r (λ rows. IsWrapped w.mode w.tab_len (max w.width 1) text rows.ranges) → IfOk r (λ rows. rows.marks ≡ marks_of text rows.ranges) → OnOk r (length text < size_limit)
+    → after ≡ count + 1 → IfOk r (λ rows. rows.tick ≡ after) → IfOk r (λ rows. AreRowsAtOnce old count (chars text ∷ []) (origin ∷ []) (rows ∷ []) after)
+line_wrapped old count after text origin w (Err e) none w_is u wrapped marked short counted tick = tt
+line_wrapped old count after text origin w (Ok rows) none w_is u wrapped marked short counted tick =
+    subst (λ (o : Option ℕ). AreRowsAtOnce old count (chars text ∷ []) (o ∷ []) (rows ∷ []) after) (sym none)
+    (record {
+      rows = (subst (λ (v : Wrapping). AreRowsOfLine v (chars text) rows) w_is (AreRowsOfLine-text w text rows u wrapped marked short), tt);
+      ticks = ap (λ (t : ℕ). t ∷ []) (tick ∙ counted);
+      counted = counted;
+    })
 
 -- ---- the rows that lines keep
 

@@ -11,7 +11,7 @@ use Rattle.textarea_text.proofs.Sizes.{length-le-size_of, size_of_text}
 use Rattle.textarea_text.proofs.Splices.{lines-joined}
 use Rattle.textarea_text.proofs.StringRows.{row_within, rows_place}
 use Rattle.textarea_wrap.specs.RowsView.{RowsView}
-use Rattle.textarea_screen_map.specs.LineRows.{AreRowsOf, ticks_of}
+use Rattle.textarea_screen_map.specs.LineRows.{AreRowsOf}
 use Rattle.textarea_screen_map.specs.declared.layout.Wrapping.{Wrapping}
 use Rattle.textarea_screen_map.specs.Map.{MapView}
 use Rattle.textarea_lines.specs.declared.settings.LayoutSettings.{LayoutSettings}

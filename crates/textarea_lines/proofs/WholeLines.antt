@@ -17,7 +17,7 @@ use Rattle.textarea_wrap.specs.WrapRules.{ranges_from}
 use Rattle.textarea_wrap.specs.RowsView.{RowsView}
 use Rattle.textarea_wrap.specs.WrapResult.{IsWrapped}
 use Rattle.textarea_wrap.specs.declared.wrap.WrapMode.TheVariants as mode
-use Rattle.textarea_screen_map.specs.LineRows.{AreRowsOf, AreRowsOfLine, ticks_of}
+use Rattle.textarea_screen_map.specs.LineRows.{AreRowsOf, AreRowsOfLine}
 use Rattle.textarea_blocks.specs.Sums.{line_bytes, ranges_at, row_total, size_total}
 use Rattle.textarea_screen_map.specs.Map.{MapView}
 use Rattle.textarea_screen_map.proofs.Layouts.{AreRowsOf-drop, AreRowsOf-replaced, AreRowsOf-take, length-AreRowsOf}

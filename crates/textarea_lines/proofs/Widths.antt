@@ -4,7 +4,7 @@ use Rattle.std.proofs.Common.{arith, ◌≡◌, ℕ, ◌+◌, ◌<◌, ◌≤◌
 use Rattle.std.specs.Option.{IfSome}
 use Rattle.std.proofs.lemmas.List.{length-map}
 use Rattle.textarea_util.specs.Limit.{size_limit}
-use Rattle.textarea_text.specs.Text.{Symbol, characters_of, lines, lines_of}
+use Rattle.textarea_text.specs.Text.{characters_of, lines, lines_of}
 use Rattle.textarea_wrap.specs.RowsView.{RowsView}
 use Rattle.textarea_screen_map.specs.declared.layout.Wrapping.{Wrapping}
 use Rattle.textarea_screen_map.specs.LineRows.{AreRowsOf, ticks_after, ticks_of, with_tab_len}

@@ -1,15 +1,14 @@
 -- The lines that splices wrap that are made at once.
-use Rattle.std.proofs.lemmas.Grind.{common_steps}
-use Rattle.std.proofs.Common.{◌≡◌, ◌≢◌, ◌⊎◌, inl, inr, ℕ, ◌+◌, ◌≤◌, Bool, true, false, cond, List, [], ◌∷◌, ◌++◌, Option, Some, None, length, unwrap_or, ap, refl, sym, subst, ◌∙◌, arith}
-use Rattle.textarea_text.specs.Splice.{Splice, CanApply, Fits}
+use Rattle.std.proofs.Common.{◌≡◌, ◌≢◌, inl, inr, ℕ, ◌≤◌, Bool, true, false, cond, List, [], Option, length, unwrap_or, ap, refl, sym, subst, ◌∙◌, arith}
+use Rattle.textarea_text.specs.Splice.{Splice, CanApply}
 use Rattle.textarea_text.specs.Text.{lines}
 use Rattle.textarea_screen_map.specs.LineRows.{AreRowsOf}
 use Rattle.textarea_screen_map.specs.declared.layout.Wrapping.{Wrapping}
-use Rattle.textarea_lines.specs.AtOnce.{IsChangedFrom, WrapsAtOnce, WrapsTouchedOnce, applied_each, line_origins, numbered, ticks_at_once, touched_count, touched_wrapped, wrapped_once}
+use Rattle.textarea_lines.specs.AtOnce.{IsChangedFrom, WrapsAtOnce, WrapsTouchedOnce, applied_each, line_origins, numbered, ticks_at_once, touched_wrapped, wrapped_once}
 use Rattle.textarea_lines.specs.LineWraps.{WrapsAllLines, map_width, width_for}
-use Rattle.textarea_lines.specs.TextLayout.{Layout, Origins, TextAndLayout, all_wrapped, applied_to, wrapping_of}
+use Rattle.textarea_lines.specs.TextLayout.{Layout, Origins, TextAndLayout, all_wrapped, wrapping_of}
 use Rattle.textarea_lines.specs.Wrappings.{is_same_wrapping, wrapping_for}
-use Rattle.textarea_lines.proofs.ComingLines.{ComeOnce, come_once}
+use Rattle.textarea_lines.proofs.ComingLines.{come_once}
 use Rattle.textarea_lines.proofs.MapWidths.{other_test, same_test, same_wrapping}
 use Rattle.textarea_lines.proofs.RowsOnce.{keeps_untouched}
 use Rattle.textarea_lines.proofs.SplicedRows.{OneMap}

@@ -1,6 +1,6 @@
 -- A text with its layout after several splices that are made at once: each line that one of them
 -- touched is wrapped once.
-use Rattle.std.specs.Prelude.{◌≡◌, ◌≢◌, ℕ, ◌+◌, List, [], ◌∷◌, Option, Some, None, get_or, length, map, slice_get, unwrap_or, if◌then◌else◌}
+use Rattle.std.specs.Prelude.{◌≡◌, ◌≢◌, ℕ, ◌+◌, List, [], ◌∷◌, Some, None, get_or, length, map, slice_get, unwrap_or, if◌then◌else◌}
 use Rattle.std.specs.List.{range_with_len}
 use Rattle.textarea_text.specs.Splice.{CanApply, Splice, applied_all}
 use Rattle.textarea_text.specs.Text.{lines}

@@ -38,6 +38,10 @@ pub record TextAndLayout : Type 0 where
   pub text : List Symbol
   pub layout : Layout
 
+-- the text with another account of where its lines come from
+abbrev pub with_origins : TextAndLayout → Option Origins → TextAndLayout
+with_origins text_layout origins = record { text = text_layout.text; layout = record text_layout.layout { origins = origins } }
+
 -- all `line_count` lines are wrapped, from the first on, and not numbered
 abbrev pub all_wrapped : LayoutSettings → ℕ → ℕ → Layout
 all_wrapped settings count line_count = record { settings = settings; count = count + line_count; ticks = ticks_after count line_count; origins = None }

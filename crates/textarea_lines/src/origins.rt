@@ -52,8 +52,8 @@ pub(crate) fn slice_of(origins: &Origins) -> &[Option<usize>]
 /// and after it.
 pub(crate) fn touched_lines(change: &Change<'_>) -> Result<(usize, usize, usize), AllocError>
     ensures row { IfOk result (λ touched. touched.0 ≡ change.now.place.0) }
-    ensures gone { IfOk result (λ touched. touched.1.0 ≡ replaced_line_count change.now) }
-    ensures come { IfOk result (λ touched. touched.1.1 ≡ new_line_count change.now) }
+    ensures gone { IfOk result (λ touched. touched.1 ≡ replaced_line_count change.now) }
+    ensures come { IfOk result (λ touched. touched.2 ≡ new_line_count change.now) }
 {
     let row = change.start().0;
     let gone = within_limit(change.cursor_before().0 - row)? + 1;

@@ -1,10 +1,8 @@
 //! The visual rows of lines after several changes, of which only those are wrapped that a change
 //! touched.
-ghost use Rattle.std.specs.Prelude.{◌≡◌, ◌+◌, ◌++◌, ◌∷◌, [], chars, List, ℕ, IfOk, OnOk};
-ghost use Rattle.textarea_screen_map.specs.LineRows.{AreRowsOfLine};
-ghost use Rattle.textarea_lines.specs.AtOnce.{ticks_at_once, touched_count};
-ghost use Rattle.textarea_lines.specs.Prelude.{AreRowsOf, all_rows, lines_of, ticks_of};
-ghost use Rattle.textarea_lines.specs.RowsAtOnce.{HasOldRows, HaveOldRows};
+ghost use Rattle.std.specs.Prelude.{◌≡◌, ◌∷◌, [], chars, length, IfOk, OnOk};
+ghost use Rattle.textarea_lines.specs.Prelude.{all_rows, lines_of};
+ghost use Rattle.textarea_lines.specs.RowsAtOnce.{AreRowsAtOnce, HasOldRows, HaveOldRows};
 
 use std::alloc::{AllocError, Global};
 use textarea_screen_map::screen_map::ScreenMap;
@@ -20,13 +18,11 @@ pub(crate) fn map_at_once(
     origins: &[Option<usize>],
     count: &mut WrapCount,
 ) -> Result<ScreenMap, AllocError>
-    requires { HaveOldRows old.now origins.now (lines_of lines.now) }
+    requires long { length origins.now ≡ length lines.now }
+    requires rows { HaveOldRows old.now origins.now (lines_of lines.now) }
     ensures wrapping { IfOk result (λ map. map.wrapping ≡ old.now.wrapping) }
-    ensures rows { IfOk result (λ map.
-        AreRowsOf old.now.wrapping (lines_of lines.now) map.rows) }
-    ensures ticks { IfOk result (λ map. ticks_of map.rows
-        ≡ ticks_at_once (ticks_of old.now.rows) count.old origins.now) }
-    ensures counted { OnOk result (count.new ≡ count.old + touched_count origins.now) }
+    ensures rows { IfOk result (λ map. AreRowsAtOnce old.now count.old (lines_of lines.now)
+        origins.now map.rows count.new) }
 {
     let mut blocks = RowBlocks::new(alloc);
     push_at_once(alloc, &mut blocks, old, lines, origins, count)?;
@@ -43,12 +39,10 @@ fn push_at_once(
     count: &mut WrapCount,
 ) -> Result<(), AllocError>
     requires none { blocks.old.blocks ≡ [] }
+    requires long { length origins.now ≡ length lines.now }
     requires rows { HaveOldRows old.now origins.now (lines_of lines.now) }
-    ensures rows { OnOk result (AreRowsOf old.now.wrapping (lines_of lines.now)
-        (all_rows blocks.new.blocks)) }
-    ensures ticks { OnOk result (ticks_of (all_rows blocks.new.blocks)
-        ≡ ticks_at_once (ticks_of old.now.rows) count.old origins.now) }
-    ensures counted { OnOk result (count.new ≡ count.old + touched_count origins.now) }
+    ensures { OnOk result (AreRowsAtOnce old.now count.old (lines_of lines.now) origins.now
+        (all_rows blocks.new.blocks) count.new) }
 {
     let mut from = 0;
     'wraps: while from < lines.len() {
@@ -68,12 +62,10 @@ fn rows_at_once(
     origins: &[Option<usize>],
     count: &mut WrapCount,
 ) -> Result<Vec<Rows>, AllocError>
-    requires { HaveOldRows old.now origins.now (lines_of lines.now) }
-    ensures rows { IfOk result (λ rows.
-        AreRowsOf old.now.wrapping (lines_of lines.now) rows.items) }
-    ensures ticks { IfOk result (λ rows. ticks_of rows.items
-        ≡ ticks_at_once (ticks_of old.now.rows) count.old origins.now) }
-    ensures counted { OnOk result (count.new ≡ count.old + touched_count origins.now) }
+    requires long { length origins.now ≡ length lines.now }
+    requires rows { HaveOldRows old.now origins.now (lines_of lines.now) }
+    ensures { IfOk result (λ rows. AreRowsAtOnce old.now count.old (lines_of lines.now)
+        origins.now rows.items count.new) }
 {
     let mut rows = Vec::with_capacity(alloc, lines.len())?;
     for i in 0..lines.len() {
@@ -92,10 +84,8 @@ fn rows_of_line(
     count: &mut WrapCount,
 ) -> Result<Rows, AllocError>
     requires { HasOldRows old.now origin (chars line.now) }
-    ensures rows { IfOk result (λ rows. AreRowsOfLine old.now.wrapping (chars line.now) rows) }
-    ensures tick { IfOk result (λ rows. rows.tick ∷ []
-        ≡ ticks_at_once (ticks_of old.now.rows) count.old (origin ∷ [])) }
-    ensures counted { OnOk result (count.new ≡ count.old + touched_count (origin ∷ [])) }
+    ensures { IfOk result (λ rows. AreRowsAtOnce old.now count.old (chars line.now ∷ [])
+        (origin ∷ []) (rows ∷ []) count.new) }
 {
     match origin {
         Some(number) => old.rows_at(number).clone(),

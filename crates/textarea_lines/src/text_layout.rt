@@ -2,8 +2,8 @@
 mod at_once;
 mod width;
 
-ghost use Rattle.std.specs.Prelude.{◌≡◌, ◌+◌, ◌-◌, ◌<◌, ◌≤◌, ◌↔◌, [], length, vec_len, false, true, IfOk, IfSome, IsOk, IsTrue, OnErr, OnOk, if◌then◌else◌};
-ghost use Rattle.textarea_lines.specs.Prelude.{size_limit, offset_at, Place, IsPlace, size_of, weight, Fits, applied, lines, lines_of, text_of, breaks_of, row_total, IsRowCount, IsVisualPosition, IsFoundAbove, IsFoundBelow, IsRowCountAt, OfRows, applied_to, lines_spliced, is_wrapped_at, layout_from_scratch, with_settings, keeps_wrapping, with_replacement, size_after, is_wrapped};
+ghost use Rattle.std.specs.Prelude.{◌≡◌, ◌+◌, ◌-◌, ◌<◌, ◌≤◌, ◌↔◌, [], length, option_map, vec_len, false, true, None, IfOk, IfSome, IsOk, IsTrue, OnErr, OnOk, if◌then◌else◌};
+ghost use Rattle.textarea_lines.specs.Prelude.{size_limit, offset_at, Place, IsPlace, size_of, weight, Fits, applied, lines, lines_of, text_of, breaks_of, row_total, IsRowCount, IsVisualPosition, IsFoundAbove, IsFoundBelow, IsRowCountAt, OfRows, applied_to, lines_spliced, origins_of, origins_spliced, with_origins, is_wrapped_at, layout_from_scratch, with_settings, keeps_wrapping, with_replacement, size_after, is_wrapped};
 
 use crate::origins::{Origins, copy_origins, prepare_origins, put_origins, touched_lines};
 use crate::rewrap::{Measured, WrappedRows, drop_measured, prepare_rows_for, put_whole_line};
@@ -338,11 +338,42 @@ impl TextLayout {
         ensures ok { OnOk result (self.new ≡ applied_to self.old change.entry) }
         ensures err { OnErr result (self.new ≡ self.old) }
     {
+        let mut origins = self.take_origins();
+        let made = self.apply_with(change, &mut origins);
+        self.set_origins(origins);
+        made
+    }
+
+    // Takes out where lines come from.
+    fn take_origins(&mut self) -> Origins
+        ensures rest { self.new ≡ with_origins self.old None }
+        ensures taken { origins_of result ≡ self.old.layout.origins }
+    {
+        self.origins.take()
+    }
+
+    // Sets where lines come from.
+    fn set_origins(&mut self, origins: Origins)
+        ensures { self.new ≡ with_origins self.old (origins_of origins) }
+    {
+        self.origins = origins;
+    }
+
+    // Makes a change that fits the text, also in what is taken out of it.
+    fn apply_with(&mut self, change: Change<'_>, origins: &mut Origins) -> Result<(), AllocError>
+        requires { Fits self.old.text change }
+        ensures ok { OnOk result (self.new ≡ lines_spliced self.old change.entry) }
+        ensures origins { OnOk result (origins_of origins.new
+            ≡ option_map (λ origins. origins_spliced origins change.entry)
+            (origins_of origins.old)) }
+        ensures err { OnErr result (self.new ≡ self.old) }
+        ensures origins_stay { OnErr result (origins_of origins.new ≡ origins_of origins.old) }
+    {
         let alloc = self.allocator();
         let (row, gone, come) = touched_lines(&change)?;
-        let new = prepare_origins(alloc, &mut self.origins, row, gone, come)?;
+        let new = prepare_origins(alloc, origins, row, gone, come)?;
         self.apply_to_lines(change)?;
-        put_origins(&mut self.origins, row, gone, new);
+        put_origins(origins, row, gone, new);
         Ok(())
     }
 

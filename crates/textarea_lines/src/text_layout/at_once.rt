@@ -24,7 +24,7 @@ impl TextLayout {
             ..self.settings
         };
         let mut copy = TextLayout::wrap_lines(lines, settings, WrapCount::new())?;
-        copy.origins = Some(origins);
+        copy.set_origins(Some(origins));
         Ok(copy)
     }
 
@@ -57,9 +57,10 @@ impl TextLayout {
         ensures { IfOk result (λ text_layout. text_layout ≡ wrapped_once self.now changed) }
     {
         let alloc = self.allocator();
+        let old = &self.map;
         let lines = changed.lines.as_slice();
         let origins = slice_of(&changed.origins);
-        let map = map_at_once(alloc, &self.map, lines, origins, &mut count)?;
+        let map = map_at_once(alloc, old, lines, origins, &mut count)?;
         let TextLayout {
             lines,
             size,
