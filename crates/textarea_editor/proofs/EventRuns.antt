@@ -9,14 +9,14 @@ use Rattle.textarea_editor.specs.Draft.{FailsIn, FailsInAsked, HasCopy, IsHonest
 use Rattle.textarea_editor.specs.declared.draft.Draft.{Draft}
 use Rattle.textarea_editor.specs.Editor.{AsksToSave, MayQuit}
 use Rattle.textarea_editor.specs.Effects.{IsWritten, text_of_saving}
-use Rattle.textarea_editor.specs.FileText.{file_bytes}
 use Rattle.textarea_editor.specs.Steps.{AreSteps, FailsAt, IsStep, IsTimed, MakesCallsOf, Moment, NoneFails, Succeeds}
 use Rattle.textarea_editor.specs.declared.editor.Editor.{Editor}
 use Rattle.textarea_editor.specs.declared.effect.Effect.{Effect}
 use Rattle.textarea_editor.specs.declared.effect.Effect.TheVariants.{Quit, Save}
 use Rattle.textarea_editor.specs.declared.effect.SaveRequest.{SaveRequest}
-use Rattle.textarea_editor.specs.declared.file_text.LineEnds.{LineEnds}
 use Rattle.textarea_editor.specs.declared.message.Message.TheVariants.{Memory}
+use Rattle.textarea_files.specs.FileText.{file_bytes}
+use Rattle.textarea_files.specs.declared.file_text.LineEnds.{LineEnds}
 use Rattle.textarea_terminal.specs.declared.input.event.Event.{Event}
 use Rattle.textarea_text.specs.Text.{lines}
 use Rattle.tui_textarea.specs.Grouping.{typing_ended}

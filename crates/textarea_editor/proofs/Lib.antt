@@ -3,7 +3,6 @@ mod Drafts
 mod EventRuns
 mod SaveRuns
 mod ProgramRuns
-mod FileLines
 mod Texts
 mod HelpLines
 mod Times
@@ -15,8 +14,6 @@ mod Replacing
 mod Indents
 mod Frames
 mod ReadOnlyTexts
-mod Views
 mod ControlCounts
-mod DiskLemmas
 mod Copying
 mod Storages

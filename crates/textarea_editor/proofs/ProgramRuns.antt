@@ -14,9 +14,9 @@ use Rattle.textarea_editor.specs.Turns.{GivenFile, file_of, given_after, given_b
 use Rattle.textarea_editor.specs.declared.editor.Editor.{Editor}
 use Rattle.textarea_editor.specs.declared.effect.Effect.{Effect}
 use Rattle.textarea_editor.specs.declared.effect.Effect.TheVariants as does
-use Rattle.textarea_editor.specs.declared.effect.SaveEnd.{SaveEnd}
-use Rattle.textarea_editor.specs.declared.effect.SaveEnd.TheVariants as ended
 use Rattle.textarea_editor.specs.declared.effect.SaveRequest.{SaveRequest}
+use Rattle.textarea_files.specs.declared.save_end.SaveEnd.{SaveEnd}
+use Rattle.textarea_files.specs.declared.save_end.SaveEnd.TheVariants as ended
 use Rattle.textarea_text.specs.Text.{Symbol, lines, lines_of}
 use Rattle.tui_textarea.specs.State.{State}
 

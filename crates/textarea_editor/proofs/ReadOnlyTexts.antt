@@ -2,7 +2,7 @@
 use Rattle.std.proofs.Common.{◌≡◌, ◌∙◌, ℕ, Bool, List, ap, subst, sym}
 use Rattle.textarea_editor.specs.Effects.{IsWritten}
 use Rattle.textarea_editor.specs.SetUp.{IsOpened, IsViewed, opened, read_only}
-use Rattle.textarea_editor.specs.declared.file_text.LineEnds.{LineEnds}
+use Rattle.textarea_files.specs.declared.file_text.LineEnds.{LineEnds}
 use Rattle.textarea_text.specs.Text.{Symbol, lines}
 use Rattle.tui_textarea.specs.State.{State}
 

@@ -6,16 +6,17 @@ use Rattle.textarea_editor.proofs.Drafts.{honest_same, honest_then}
 use Rattle.textarea_editor.proofs.EventRuns.{same_written, step_honest}
 use Rattle.textarea_editor.proofs.Saved.{unchanged_is_saved, unsaved_is_changed}
 use Rattle.textarea_editor.specs.Draft.{IsHonest, IsSaved, IsUnsaved}
-use Rattle.textarea_editor.specs.Effects.{IsWritten, is_saved, text_of_saving}
+use Rattle.textarea_editor.specs.Effects.{IsWritten, text_of_saving}
 use Rattle.textarea_editor.specs.Steps.{IsStep}
 use Rattle.textarea_editor.specs.Turns.{AreTurns, GivenFile, HasText, IsAfterSaving, IsCarriedOut, KeepsText, Turn, file_of, given_after, given_by}
 use Rattle.textarea_editor.specs.declared.draft.Draft.{Draft}
 use Rattle.textarea_editor.specs.declared.editor.Editor.{Editor}
 use Rattle.textarea_editor.specs.declared.effect.Effect.{Effect}
 use Rattle.textarea_editor.specs.declared.effect.Effect.TheVariants.{Recover, Save}
-use Rattle.textarea_editor.specs.declared.effect.SaveEnd.{SaveEnd}
 use Rattle.textarea_editor.specs.declared.effect.SaveRequest.{SaveRequest}
-use Rattle.textarea_editor.specs.declared.file_text.LineEnds.{LineEnds}
+use Rattle.textarea_files.specs.DiskFiles.{is_saved}
+use Rattle.textarea_files.specs.declared.file_text.LineEnds.{LineEnds}
+use Rattle.textarea_files.specs.declared.save_end.SaveEnd.{SaveEnd}
 use Rattle.textarea_terminal.specs.declared.input.event.Event.{Event}
 use Rattle.textarea_text.specs.Text.{lines}
 

@@ -11,18 +11,18 @@ use Rattle.textarea_disk.specs.TextChange.{IsReadFor}
 use Rattle.textarea_disk.specs.declared.journal_write.Journal.{Journal}
 use Rattle.textarea_disk.specs.declared.journal_write.JournalWrite.{JournalWrite}
 use Rattle.textarea_disk.specs.declared.text_change.Recovery.{Recovery}
-use Rattle.textarea_editor.specs.DiskFiles.{IsRead}
 use Rattle.textarea_editor.specs.Effects.{optional_bytes}
-use Rattle.textarea_editor.specs.JournalFiles.{IsJournalFound}
 use Rattle.textarea_editor.specs.Openings.{IsFileOpened, IsFileTaken, IsOpenedAt, IsOpenedWith, IsTextOf, IsWeighed, KeepsAllButFile, has_changes, has_text, told_at_opening, with_told}
 use Rattle.textarea_editor.specs.Storage.{MakesTextOf, IsBrought, IsWrite, IsWriteDone, IsWriteIf, is_writing, needs_write}
-use Rattle.textarea_editor.specs.declared.disk.DiskFile.{DiskFile}
-use Rattle.textarea_editor.specs.declared.disk.journal_file.FoundJournal.{FoundJournal}
-use Rattle.textarea_editor.specs.declared.disk.journal_file.JournalFile.{JournalFile}
 use Rattle.textarea_editor.specs.declared.editor.Editor.{Editor}
 use Rattle.textarea_editor.specs.declared.message.Message.{Message}
-use Rattle.textarea_editor.specs.declared.message.Trouble.{Trouble}
 use Rattle.textarea_editor.specs.declared.storage.Storage.{Storage}
+use Rattle.textarea_files.specs.DiskFiles.{IsRead}
+use Rattle.textarea_files.specs.JournalFiles.{IsJournalFound}
+use Rattle.textarea_files.specs.declared.disk.DiskFile.{DiskFile}
+use Rattle.textarea_files.specs.declared.disk.journal_file.FoundJournal.{FoundJournal}
+use Rattle.textarea_files.specs.declared.disk.journal_file.JournalFile.{JournalFile}
+use Rattle.textarea_files.specs.declared.trouble.Trouble.{Trouble}
 
 pub some_text : (found : Recovery) (text : String Global) → found.is_of_file ≡ true → string_vec text ≡ found.text → IsTextOf (has_text found) found.text.items (Some text)
 some_text found text of_file same =

@@ -82,5 +82,5 @@ IsReadOn read (first ∷ rest) found =
 abbrev pub nothing_read : Arguments
 nothing_read = record { is_modal = false; closes_last = true; keeps_indent = true; restores = false; is_unnamed = false; position = None; name = None }
 
-abbrev pub IsRead : List (String Global) → Option Arguments → Type 0
-IsRead words found = IsReadOn nothing_read words found
+abbrev pub AreArguments : List (String Global) → Option Arguments → Type 0
+AreArguments words found = IsReadOn nothing_read words found

@@ -2,28 +2,19 @@
 use Rattle.std.specs.Prelude.{◌≡◌, ℕ, Bool, true, false, List, [], Option, None, Some, String, string_bytes}
 use Rattle.std.specs.Str.{chars}
 use Rattle.std.specs.declared.alloc.Global.{Global}
-use Rattle.textarea_editor.specs.FileText.{file_bytes}
 use Rattle.textarea_editor.specs.declared.effect.Effect.{Effect}
 use Rattle.textarea_editor.specs.declared.effect.Effect.TheVariants as does
 use Rattle.textarea_editor.specs.declared.effect.Effect.TheVariants.{Copy, Nothing, Quit, Save}
-use Rattle.textarea_editor.specs.declared.effect.SaveEnd.{SaveEnd}
-use Rattle.textarea_editor.specs.declared.effect.SaveEnd.TheVariants as save_end
 use Rattle.textarea_editor.specs.declared.effect.SaveRequest.{SaveRequest}
-use Rattle.textarea_editor.specs.declared.file_text.LineEnds.{LineEnds}
 use Rattle.textarea_editor.specs.declared.focus.Question.{Question}
 use Rattle.textarea_editor.specs.declared.focus.Question.TheVariants.{Discard, Overwrite, Recover, SaveFirst}
 use Rattle.textarea_editor.specs.declared.focus.KeyReply.{KeyReply}
 use Rattle.textarea_editor.specs.declared.focus.KeyReply.TheVariants as reply
+use Rattle.textarea_files.specs.FileText.{file_bytes}
+use Rattle.textarea_files.specs.declared.file_text.LineEnds.{LineEnds}
 use Rattle.textarea_text.specs.Fragment.{fragment_text}
 use Rattle.textarea_text.specs.Text.{lines, lines_of}
 use Rattle.tui_textarea.specs.State.{State}
-
--- the file has the new bytes
-abbrev pub is_saved : SaveEnd → Bool
-is_saved save_end.Saved = true
-is_saved save_end.SavedAnew = true
-is_saved save_end.Unsynced = true
-is_saved end = false
 
 -- these bytes are those of a file of the text's lines
 pub record IsWritten (state : State) (ends : LineEnds) (bytes : List ℕ) : Type 0 where

@@ -2,34 +2,8 @@
 use Rattle.std.specs.Prelude.{ℕ, List, [], ◌++◌, codes, decimal, if◌then◌else◌, length, nat_le}
 use Rattle.textarea_editor.specs.declared.message.Message.{Message}
 use Rattle.textarea_editor.specs.declared.message.Message.TheVariants as message
-use Rattle.textarea_editor.specs.declared.message.Trouble.{Trouble}
-use Rattle.textarea_editor.specs.declared.message.Trouble.TheVariants as trouble
-
--- why a file can't be read or saved
-abbrev pub full_reason : Trouble → List ℕ
-full_reason trouble.NotText = codes "it is not UTF-8 text"
-full_reason trouble.Folder = codes "it is a folder"
-full_reason trouble.NotFile = codes "it is not a regular file"
-full_reason trouble.Rights = codes "permission denied"
-full_reason trouble.DiskFull = codes "the disk is full"
-full_reason trouble.NoFolder = codes "its folder does not exist"
-full_reason trouble.ReadOnly = codes "the file system is read-only"
-full_reason trouble.Memory = codes "out of memory"
-full_reason trouble.InPart = codes "it is written in part; the copy .taedit-1 is whole"
-full_reason trouble.Other = codes "the file system reports an error"
-
--- the same in few words
-abbrev pub short_reason : Trouble → List ℕ
-short_reason trouble.NotText = codes "not UTF-8"
-short_reason trouble.Folder = codes "it is a folder"
-short_reason trouble.NotFile = codes "no regular file"
-short_reason trouble.Rights = codes "not permitted"
-short_reason trouble.DiskFull = codes "disk full"
-short_reason trouble.NoFolder = codes "no such folder"
-short_reason trouble.ReadOnly = codes "read-only disk"
-short_reason trouble.Memory = codes "out of memory"
-short_reason trouble.InPart = codes "in part; .taedit-1"
-short_reason trouble.Other = codes "disk error"
+use Rattle.textarea_files.specs.Troubles.{full_reason, short_reason}
+use Rattle.textarea_files.specs.declared.trouble.Trouble.{Trouble}
 
 -- that a save failed, and why. Where the room is too narrow, first "not saved" goes, and then the reason is shorter
 abbrev pub not_saved_words : Trouble → ℕ → List ℕ

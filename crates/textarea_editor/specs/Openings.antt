@@ -7,21 +7,21 @@ use Rattle.textarea_disk.specs.TextChange.{IsReadFor}
 use Rattle.textarea_disk.specs.declared.text_change.Recovery.{Recovery}
 use Rattle.textarea_editor.specs.ControlCharacters.{IsCountShown}
 use Rattle.textarea_editor.specs.Controls.{with_focus}
-use Rattle.textarea_editor.specs.DiskFiles.{IsRead}
 use Rattle.textarea_editor.specs.Draft.{HasCopy, IsSaved}
 use Rattle.textarea_editor.specs.Editor.{IsNamed, KeepsRest, controls_of, draft_of, end_of, file_name_of, message_of, numbers_of, with_controls, with_message, wraps_of}
 use Rattle.textarea_editor.specs.Effects.{IsWritten, optional_bytes}
-use Rattle.textarea_editor.specs.JournalFiles.{IsJournalFound, none_open}
 use Rattle.textarea_editor.specs.JournalQuestions.{journal_question}
 use Rattle.textarea_editor.specs.SetUp.{IsNewFile, IsOpened, IsViewed}
-use Rattle.textarea_editor.specs.declared.disk.journal_file.FoundJournal.{FoundJournal}
-use Rattle.textarea_editor.specs.declared.disk.journal_file.FoundJournal.TheVariants as journal
 use Rattle.textarea_editor.specs.declared.editor.Editor.{Editor}
 use Rattle.textarea_editor.specs.declared.focus.Focus.TheVariants as focus
 use Rattle.textarea_editor.specs.declared.message.Message.{Message}
 use Rattle.textarea_editor.specs.declared.message.Message.TheVariants as message
-use Rattle.textarea_editor.specs.declared.message.Trouble.{Trouble}
 use Rattle.textarea_editor.specs.declared.storage.Storage.{Storage}
+use Rattle.textarea_files.specs.DiskFiles.{IsRead}
+use Rattle.textarea_files.specs.JournalFiles.{IsJournalFound, none_open}
+use Rattle.textarea_files.specs.declared.disk.journal_file.FoundJournal.{FoundJournal}
+use Rattle.textarea_files.specs.declared.disk.journal_file.FoundJournal.TheVariants as journal
+use Rattle.textarea_files.specs.declared.trouble.Trouble.{Trouble}
 
 -- ---- the editor
 

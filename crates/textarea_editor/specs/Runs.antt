@@ -11,9 +11,9 @@ use Rattle.textarea_editor.specs.Turns.{AreTurns, GivenFile, HasText, Turn, file
 use Rattle.textarea_editor.specs.declared.editor.Editor.{Editor}
 use Rattle.textarea_editor.specs.declared.effect.Effect.{Effect}
 use Rattle.textarea_editor.specs.declared.effect.Effect.TheVariants as does
-use Rattle.textarea_editor.specs.declared.effect.SaveEnd.{SaveEnd}
-use Rattle.textarea_editor.specs.declared.effect.SaveEnd.TheVariants as ended
 use Rattle.textarea_editor.specs.declared.effect.SaveRequest.{SaveRequest}
+use Rattle.textarea_files.specs.declared.save_end.SaveEnd.{SaveEnd}
+use Rattle.textarea_files.specs.declared.save_end.SaveEnd.TheVariants as ended
 use Rattle.textarea_terminal.specs.InputEvent.{EventValue, value_of}
 use Rattle.textarea_terminal.specs.InputState.{DecoderState}
 

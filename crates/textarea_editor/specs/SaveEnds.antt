@@ -5,18 +5,18 @@ use Rattle.textarea_editor.specs.Controls.{prompt_opened, with_focus}
 use Rattle.textarea_editor.specs.declared.controls.Controls.{Controls}
 use Rattle.textarea_editor.specs.declared.effect.Effect.{Effect}
 use Rattle.textarea_editor.specs.declared.effect.Effect.TheVariants.{Nothing, Quit}
-use Rattle.textarea_editor.specs.declared.effect.SaveEnd.{SaveEnd}
-use Rattle.textarea_editor.specs.declared.effect.SaveEnd.TheVariants as ended
 use Rattle.textarea_editor.specs.declared.focus.Asked.{Asked}
 use Rattle.textarea_editor.specs.declared.focus.Asked.TheVariants as asks
 use Rattle.textarea_editor.specs.declared.focus.Focus.TheVariants as focus
 use Rattle.textarea_editor.specs.declared.focus.Question.TheVariants.{Overwrite}
 use Rattle.textarea_editor.specs.declared.message.Message.{Message}
 use Rattle.textarea_editor.specs.declared.message.Message.TheVariants as message
+use Rattle.textarea_files.specs.declared.save_end.SaveEnd.{SaveEnd}
+use Rattle.textarea_files.specs.declared.save_end.SaveEnd.TheVariants as ended
 use Rattle.textarea_text.specs.Place.{Place}
 
 -- a failed save doesn't end the program, and another name is asked for; where memory runs out for that, the text has the focus as before
-pub record IsAfterFailure (controls : Controls) (cursor : Place) (new : Controls) : Type 0 where
+pub record IsAfterFailedSave (controls : Controls) (cursor : Place) (new : Controls) : Type 0 where
   pub led :
       (new ≡ prompt_opened (record controls { ends_when_saved = false }) cursor asks.Name) ⊎ (new ≡ record controls { ends_when_saved = false })
 
@@ -26,7 +26,7 @@ IsAfterSave ended.SavedAnew controls cursor new = new ≡ controls
 IsAfterSave ended.Unsynced controls cursor new = new ≡ record controls { ends_when_saved = false }
 IsAfterSave ended.ChangedOnDisk controls cursor new = new ≡ with_focus controls (focus.Question Overwrite)
 IsAfterSave ended.Exists controls cursor new = new ≡ with_focus controls (focus.Question Overwrite)
-IsAfterSave (ended.Failed failed) controls cursor new = IsAfterFailure controls cursor new
+IsAfterSave (ended.Failed failed) controls cursor new = IsAfterFailedSave controls cursor new
 
 -- the message of the status row; that of a question says which file it is about
 abbrev pub message_after : SaveEnd → Message

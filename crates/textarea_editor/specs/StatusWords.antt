@@ -169,3 +169,11 @@ right_words (focus.Prompt asks.Replaced) editor room = search_words editor (code
 right_words (focus.Prompt asked) editor room = message_words editor.message (room - 8) ++ codes " "
 right_words focus.Replace editor room = words_or room (codes " " ++ (match_words editor ++ codes " ")) []
 right_words other editor room = words_or room (message_words editor.message room ++ codes " ") []
+
+-- ---- a text that is read-only
+
+-- beside a text that is read-only there is a message, where there is no other
+abbrev pub reminder : Bool → Focus → Message → Message
+reminder false at shown = shown
+reminder true focus.Text message.Nothing = message.ReadOnly
+reminder true at shown = shown

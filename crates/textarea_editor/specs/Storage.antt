@@ -13,20 +13,20 @@ use Rattle.textarea_disk.specs.declared.event_times.EventTimes.{EventTimes}
 use Rattle.textarea_disk.specs.declared.journal_write.Journal.{Journal}
 use Rattle.textarea_disk.specs.declared.journal_write.JournalWrite.{JournalWrite}
 use Rattle.textarea_editor.specs.ControlCharacters.{IsCountShown}
-use Rattle.textarea_editor.specs.DiskFiles.{IsHashMade, IsSaveOf}
 use Rattle.textarea_editor.specs.Draft.{IsUnsaved}
 use Rattle.textarea_editor.specs.Editor.{KeepsRest, controls_of, draft_of, end_of, file_name_of, message_of, with_message, wraps_of}
-use Rattle.textarea_editor.specs.Effects.{IsWritten, is_saved, optional_bytes}
-use Rattle.textarea_editor.specs.JournalFiles.{none_open}
+use Rattle.textarea_editor.specs.Effects.{IsWritten, optional_bytes}
 use Rattle.textarea_editor.specs.SetUp.{IsOpened}
 use Rattle.textarea_editor.specs.Steps.{IsStep}
 use Rattle.textarea_editor.specs.declared.editor.Editor.{Editor}
 use Rattle.textarea_editor.specs.declared.effect.Effect.{Effect}
-use Rattle.textarea_editor.specs.declared.effect.SaveEnd.{SaveEnd}
 use Rattle.textarea_editor.specs.declared.effect.SaveRequest.{SaveRequest}
 use Rattle.textarea_editor.specs.declared.message.Message.{Message}
 use Rattle.textarea_editor.specs.declared.message.Message.TheVariants as message
 use Rattle.textarea_editor.specs.declared.storage.Storage.{Storage}
+use Rattle.textarea_files.specs.DiskFiles.{IsHashMade, IsSaveOf, is_saved}
+use Rattle.textarea_files.specs.JournalFiles.{none_open}
+use Rattle.textarea_files.specs.declared.save_end.SaveEnd.{SaveEnd}
 use Rattle.textarea_terminal.specs.declared.input.event.Event.{Event}
 use Rattle.textarea_terminal.specs.declared.input.event.Event.TheVariants as event
 

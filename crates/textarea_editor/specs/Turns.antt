@@ -1,13 +1,14 @@
 -- Events and the saves that they ask for, one after another, and what the disk was given by them.
 use Rattle.std.specs.Prelude.{◌≡◌, ◌⊎◌, ℕ, true, false, List, [], ◌∷◌, Option, None, Some, string_bytes, if◌then◌else◌}
 use Rattle.textarea_editor.specs.Draft.{IsSaved, IsSavedFrom, IsUnsaved}
-use Rattle.textarea_editor.specs.Effects.{IsWritten, is_saved, text_of_saving}
+use Rattle.textarea_editor.specs.Effects.{IsWritten, text_of_saving}
 use Rattle.textarea_editor.specs.Steps.{IsStep, Moment}
 use Rattle.textarea_editor.specs.declared.editor.Editor.{Editor}
 use Rattle.textarea_editor.specs.declared.effect.Effect.{Effect}
 use Rattle.textarea_editor.specs.declared.effect.Effect.TheVariants.{Recover, Save}
-use Rattle.textarea_editor.specs.declared.effect.SaveEnd.{SaveEnd}
 use Rattle.textarea_editor.specs.declared.effect.SaveRequest.{SaveRequest}
+use Rattle.textarea_files.specs.DiskFiles.{is_saved}
+use Rattle.textarea_files.specs.declared.save_end.SaveEnd.{SaveEnd}
 
 -- an event, how the save ended that it asked for, if it asked for one, and the editor after both
 pub record Turn : Type 0 where

@@ -1,7 +1,7 @@
 //! The arguments of the program.
 
 ghost use Rattle.std.specs.Prelude.{◌≡◌};
-ghost use Rattle.textarea_editor.specs.Arguments.{IsNamed, IsOption, IsRead, IsReadOn, IsWord, position_word};
+ghost use Rattle.textarea_editor.specs.Arguments.{AreArguments, IsNamed, IsOption, IsReadOn, IsWord, position_word};
 ghost use Rattle.textarea_editor.specs.Positions.{IsPosition, place_of_numbers};
 
 use crate::line_number::{line_number, row_of_line};
@@ -53,7 +53,7 @@ impl<'a> Arguments<'a> {
     /// Reads the arguments, or returns `None` if they are others. Options come first; after `--` a
     /// name may begin with `-` or `+`.
     pub fn read(words: &'a [String]) -> Option<Arguments<'a>>
-        ensures { IsRead words.now result }
+        ensures { AreArguments words.now result }
     {
         read_on(
             Arguments {

@@ -29,12 +29,12 @@ use crate::controls::Controls;
 use crate::draft::Draft;
 use crate::editor::parts::{fields, file_draft, opened, replace};
 use crate::effect::Effect;
-use crate::file_text::{LineEnd, LineEnds};
 use crate::message::Message;
 pub use drawing::DrawnFrame;
 use std::alloc::{AllocError, Global};
 use std::time::Duration;
 use textarea_data::scroll::Scrolling;
+use textarea_files::file_text::{LineEnd, LineEnds};
 use textarea_terminal::input::Event;
 use tui_textarea::TextArea;
 

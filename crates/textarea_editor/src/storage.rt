@@ -11,8 +11,6 @@ ghost use Rattle.textarea_editor.specs.declared.storage.Storage.{Storage};
 mod opening;
 mod writing;
 
-use crate::disk::DiskFile;
-use crate::disk::journal_file::{JournalFile, open_locked};
 use crate::editor::Editor;
 use crate::effect::{SaveEnd, SaveRequest};
 use crate::message::{Message, Trouble};
@@ -23,6 +21,7 @@ use std::io::ErrorKind;
 use std::time::Duration;
 use textarea_data::input::Input;
 use textarea_disk::{EventTimes, Journal};
+use textarea_files::{DiskFile, JournalFile, open_locked};
 use textarea_terminal::input::Event;
 
 /// The file of a text, and its journal.

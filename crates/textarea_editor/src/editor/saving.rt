@@ -3,21 +3,22 @@ ghost use Rattle.std.specs.Prelude.{◌≡◌, false, true, IfOk, Some, is_some,
 ghost use Rattle.textarea_editor.specs.Controls.{quit_asked, save_asked, with_focus};
 ghost use Rattle.textarea_editor.specs.Draft.{IsSavedFrom};
 ghost use Rattle.textarea_editor.specs.Editor.{controls_of, draft_of, end_of, message_of};
-ghost use Rattle.textarea_editor.specs.Effects.{Carries, IsSaveAsked, IsSavingOf, is_saved, optional_bytes};
+ghost use Rattle.textarea_editor.specs.Effects.{Carries, IsSaveAsked, IsSavingOf, optional_bytes};
 ghost use Rattle.textarea_editor.specs.EventEffects.{quit_effect};
 ghost use Rattle.textarea_editor.specs.Names.{KeepsNames, LeavesNames, NamesBySave, names_of};
 ghost use Rattle.textarea_editor.specs.SaveEnds.{IsAfterSave, effect_after, message_after};
 ghost use Rattle.textarea_editor.specs.Sizes.{KeepsShown, shown_by};
 ghost use Rattle.textarea_editor.specs.StepOf.{IsStepBeside};
+ghost use Rattle.textarea_files.specs.DiskFiles.{is_saved};
 
 use super::Editor;
 use crate::editor::replacing::text_or_empty;
 use crate::effect::{Effect, SaveEnd, SaveRequest};
-use crate::file_text::joined;
 use crate::focus::{Asked, Focus, Question};
 use crate::message::Message;
 use std::alloc::AllocError;
 use std::mem;
+use textarea_files::file_text::joined;
 
 impl Editor {
     // Asks the program to save the text, or first for a name if it has none.

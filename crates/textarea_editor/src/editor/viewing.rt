@@ -4,7 +4,7 @@ ghost use Rattle.textarea_editor.specs.Draft.{HasCopy, IsSaved};
 ghost use Rattle.textarea_editor.specs.Editor.{controls_of, draft_of, end_of, file_name_of, message_of, numbers_of, wraps_of};
 ghost use Rattle.textarea_editor.specs.Effects.{IsWritten};
 ghost use Rattle.textarea_editor.specs.SetUp.{IsViewed};
-ghost use Rattle.textarea_editor.specs.Viewed.{reminder};
+ghost use Rattle.textarea_editor.specs.StatusWords.{reminder};
 
 use super::{Editor, WRAPPED_BYTES};
 use crate::editor::parts::{replace, viewed_draft};

@@ -4,11 +4,11 @@ ghost use Rattle.textarea_editor.specs.Effects.{optional_bytes};
 ghost use Rattle.textarea_editor.specs.Openings.{IsAskedAbout, IsFileOpened, IsOpenedAt, IsOpenedWith, IsTextOf, IsViewing, IsWeighed, has_changes, has_text, told_at_opening, with_told};
 
 use super::Storage;
-use crate::disk::journal_file::FoundJournal;
 use crate::editor::Editor;
 use crate::message::{Message, Trouble};
 use std::alloc::AllocError;
 use textarea_disk::{Recovery, recovered};
+use textarea_files::FoundJournal;
 
 impl Storage {
     // Shows the bytes of the file of this name. The text has no name, so nothing is locked, and there

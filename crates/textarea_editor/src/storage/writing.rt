@@ -3,11 +3,11 @@ ghost use Rattle.std.specs.Prelude.{◌≡◌, IfSome, None, is_none};
 ghost use Rattle.textarea_editor.specs.Storage.{MakesTextOf, IsBrought, IsJournalTrouble, IsTried, IsWriteDone, KeepsAllButJournal, journal_trouble, needs_write};
 
 use super::Storage;
-use crate::disk::journal_file::CarriesOut;
 use crate::editor::Editor;
 use crate::message::Message;
 use std::io::ErrorKind;
 use textarea_disk::{Journal, JournalWrite};
+use textarea_files::CarriesOut;
 
 impl Storage {
     // Brings the journal to the editor's text, and returns why that failed, if it did.

@@ -2,9 +2,9 @@ use Rattle.std.proofs.Common.{◌≡◌, ◌≤◌, ◌++◌, ℕ, Bool, true, f
 use Rattle.std.proofs.lemmas.Bool.{leb-true}
 use Rattle.std.specs.Prelude.{codes, nat_le}
 use Rattle.textarea_editor.proofs.message.reasons_fit_into_18_columns.Goals as goal
-use Rattle.textarea_editor.specs.Messages.{full_reason, short_reason}
-use Rattle.textarea_editor.specs.declared.message.Trouble.{Trouble}
-use Rattle.textarea_editor.specs.declared.message.Trouble.TheVariants as trouble
+use Rattle.textarea_files.specs.Troubles.{full_reason, short_reason}
+use Rattle.textarea_files.specs.declared.trouble.Trouble.{Trouble}
+use Rattle.textarea_files.specs.declared.trouble.Trouble.TheVariants as trouble
 
 short : (failed : Trouble) → length (short_reason failed) ≤ 18
 short trouble.NotText = omega arith

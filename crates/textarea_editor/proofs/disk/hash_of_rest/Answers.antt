@@ -1,5 +1,0 @@
-use Rattle.textarea_editor.proofs.DiskLemmas.{read_on_by}
-use Rattle.textarea_editor.proofs.disk.hash_of_rest.Goals as goal
-
-pub reading-preserved : goal.reading-preserved
-reading-preserved g c = read_on_by _ _ _ _ _ _ c.in-Some.is c.reading.invariant c.in_ok-next.ensures

@@ -1,5 +1,0 @@
-use Rattle.std.proofs.Common.{length}
-use Rattle.textarea_editor.proofs.disk.made_steps.+make_all.Given as goal
-
-abbrev pub decreases-make_all : goal.decreases-make_all
-decreases-make_all g l = length l.steps.now

@@ -1,0 +1,3 @@
+mod DiskLemmas
+mod FileLines
+mod Views

@@ -1,0 +1,10 @@
+pub mod DiskFiles
+pub mod DiskNames
+pub mod FileText
+pub mod JournalFiles
+pub mod JournalMakers
+pub mod MadeSteps
+pub mod SavingSteps
+pub mod Savings
+pub mod Troubles
+pub mod Viewed
