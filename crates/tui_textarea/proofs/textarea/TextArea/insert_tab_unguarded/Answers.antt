@@ -1,12 +1,13 @@
-use Rattle.std.proofs.Common.{◌≡◌, ◌≢◌, ◌∙◌, ◌||◌, ℕ, not, true, ap, sym}
+use Rattle.std.proofs.Common.{Result, Ok, Err, ◌≡◌, ◌≢◌, ◌∙◌, ◌||◌, ℕ, not, true, ap, sym}
 use Rattle.std.proofs.lemmas.Bool.{ne_eqb, true≢false}
-use Rattle.std.proofs.lemmas.Result.{IfOk-weaker, on_ok_weaker}
+use Rattle.std.specs.Result.{OnOk}
+use Rattle.std.proofs.lemmas.Result.{IfOk-weaker}
 use Rattle.textarea_document.specs.Selection.{is_selected}
 use Rattle.textarea_lines.specs.declared.settings.LayoutSettings.{LayoutSettings}
-use Rattle.tui_textarea.specs.Edits.{inserts_tab, tab_or_spaces_inserted}
+use Rattle.tui_textarea.specs.Edits.{inserts_tab, tab_inserted, tab_or_spaces_inserted}
 use Rattle.tui_textarea.specs.Grouping.{call_begun, call_ended}
 use Rattle.tui_textarea.specs.LayoutCalls.{tab_length}
-use Rattle.tui_textarea.specs.Selection.{unselected}
+use Rattle.tui_textarea.specs.Selection.{selection_cancelled, unselected}
 use Rattle.textarea_data.specs.declared.range.AtomicCursorBias.TheVariants.{Forward}
 use Rattle.tui_textarea.specs.State.{State}
 use Rattle.tui_textarea.specs.Units.{settled}
@@ -23,6 +24,19 @@ inserts {view} {state} is settings reported some =
 read : {view state : State} → view ≡ state → (settings : LayoutSettings) → settings ≡ view.document.layout.settings → settings.tab_len ≡ tab_length state.document
 read is settings reported = ap (λ (s : LayoutSettings). s.tab_len) reported ∙ ap (λ (s : State). tab_length s.document) is
 
+-- a tab of the length of the state is inserted
+put : {T E : Type 0} (r : Result T E) (old new : State) (length : ℕ) → length ≡ tab_length old.document →
+    OnOk r (new ≡ settled Forward (call_ended old (tab_or_spaces_inserted (unselected (call_begun old)) length))) →
+    OnOk r (new ≡ settled Forward (tab_inserted old))
+put (Ok x) old new length is h = h ∙ ap (λ (n : ℕ). settled Forward (call_ended old (tab_or_spaces_inserted (unselected (call_begun old)) n))) is
+put (Err e) old new length is h = h
+
+-- at a tab length of 0 only the selection goes
+left : {T E : Type 0} (r : Result T E) (old new : State) → tab_length old.document ≡ 0 →
+    OnOk r (new ≡ settled Forward (selection_cancelled (unselected old))) → OnOk r (new ≡ settled Forward (tab_inserted old))
+left (Ok x) old new none h = h ∙ ap (settled Forward) (tab_none old none)
+left (Err e) old new none h = h
+
 pub returns-clause-inserted : goal.returns-clause-inserted
 returns-clause-inserted c =
     IfOk-weaker c.replace_by_tab-inserted.result (λ b. b ≡ true) (λ b. b ≡ inserts_tab c.args.self.now)
@@ -31,9 +45,8 @@ returns-clause-inserted c =
 
 pub returns-clause-ok : goal.returns-clause-ok
 returns-clause-ok c =
-    on_ok_weaker c.replace_by_tab-inserted.result
-    (λ e. e ∙ ap (λ (n : ℕ). settled Forward (call_ended c.args.self.now (tab_or_spaces_inserted (unselected (call_begun c.args.self.now)) n)))
-    (read c.self.view_is c.layout_settings-tab_length.result c.layout_settings-tab_length.ensures))
+    put c.replace_by_tab-inserted.result c.args.self.now c.end_call.new.self c.layout_settings-tab_length.result.tab_len
+    (read c.self.view_is c.layout_settings-tab_length.result c.layout_settings-tab_length.ensures)
     (ended_ok c.replace_by_tab-inserted.result (λ (s : State). tab_or_spaces_inserted (unselected s) c.layout_settings-tab_length.result.tab_len) c.args.self.now c.replace_by_tab-inserted.new.self c.begin_call-opens.ensures.opens
     c.begin_call-opens.ensures.begun c.end_call.ensures c.replace_by_tab-inserted.ensures.ok)
 
@@ -47,7 +60,6 @@ returns-clause-nothing c = λ none.
 
 pub returns-then-tab_length-eq0-clause-ok : goal.returns-then-tab_length-eq0-clause-ok
 returns-then-tab_length-eq0-clause-ok c =
-    on_ok_weaker c.drop_selection.result
-    (λ e. e ∙ ap (settled Forward) (tab_none c.args.self.now
-    (sym (read c.self.view_is c.layout_settings-tab_length.result c.layout_settings-tab_length.ensures) ∙ c.if-tab_length-eq0.true)))
+    left c.drop_selection.result c.args.self.now c.drop_selection.new.self
+    (sym (read c.self.view_is c.layout_settings-tab_length.result c.layout_settings-tab_length.ensures) ∙ c.if-tab_length-eq0.true)
     c.drop_selection.ensures.ok
