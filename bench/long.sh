@@ -242,7 +242,7 @@ size_row "the same in lines of one range" "nanoseconds a range" size 100000 set_
 size_row "lines of ten bytes are set, by bytes" "nanoseconds a byte" size 10000000 loads
 size_row "lines of ten bytes are pasted, by bytes" "nanoseconds a byte" size 10000000 pastes
 size_row "lines of 100 bytes are set, by lines" "nanoseconds a line" size 100000 loads_matched
-size_row "a match in each of them is replaced, with all others" "nanoseconds a match" 2*size 100000 in_matched_lines "$needle" "$replaced"
+size_row "a match in each is replaced, with all others" "nanoseconds a match" 2*size 100000 in_matched_lines "$needle" "$replaced"
 size_row "the same, and an undo" "nanoseconds a match" size 100000 in_matched_lines "$all_kept" "$replaced_undone"
 printf '\n| a frame of 24 rows of | nanoseconds a cell |\n|---|---:|\n'
 frame_row "words, not wrapped" 'word ' 16 24 None
