@@ -8,7 +8,7 @@ pub use textarea_blocks::blocks::RowBlocks;
 use textarea_wrap::wrap::WrapCount;
 
 /// The number of lines in each block of newly wrapped lines, except for the last block.
-pub const BLOCK: usize = 128;
+pub const BLOCK: usize = 32;
 
 /// Wraps the lines and appends their rows, in blocks of `BLOCK` lines and a last one. Each line
 /// adds one to `count`. More than 2^48 lines or rows are out of memory.

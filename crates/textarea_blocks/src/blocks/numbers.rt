@@ -120,8 +120,7 @@ impl Numbers {
         ensures next { result + 1 < length self.now.numbers
             → number < get_or self.now.numbers (result + 1) 0 }
     {
-        let mut low = 0;
-        let mut high = self.items.len();
+        let (mut low, mut high) = self.bounds_of(number);
         'halving: while 1 < high - low {
             let middle = low + (high - low) / 2;
             if self.at(middle) <= number {
@@ -131,6 +130,48 @@ impl Numbers {
             }
         }
         low
+    }
+
+    // Returns the block that would have this number if all blocks had as many items.
+    fn even_guess(&self, number: usize) -> usize
+        requires { 0 < length self.now.numbers }
+        ensures { result < length self.now.numbers }
+    {
+        let last = self.count() - 1;
+        match number.checked_mul(last) {
+            Some(product) => (product / self.at(last).max(1)).min(last),
+            None => last,
+        }
+    }
+
+    // Returns bounds of the last block whose number is at most this one: its index is from the first
+    // bound on and before the second one. Where blocks have about as many items, these are near.
+    fn bounds_of(&self, number: usize) -> (usize, usize)
+        requires some { 0 < length self.now.numbers }
+        requires first { get_or self.now.numbers 0 0 ≤ number }
+        ensures ordered { result.0 < result.1 }
+        ensures within { result.1 ≤ length self.now.numbers }
+        ensures from { get_or self.now.numbers result.0 0 ≤ number }
+        ensures next { result.1 < length self.now.numbers
+            → number < get_or self.now.numbers result.1 0 }
+    {
+        let count = self.count();
+        let guess = self.even_guess(number);
+        if number < self.at(guess) {
+            return (0, guess);
+        }
+        let next = guess + 1;
+        if next < count && number < self.at(next) {
+            return (guess, next);
+        }
+        (guess, count)
+    }
+
+    // Returns the number of blocks.
+    fn count(&self) -> usize
+        ensures { result ≡ length self.now.numbers }
+    {
+        self.items.len()
     }
 
     /// Adds `come` to each number from `from` on and subtracts `gone`. Allocates nothing. A pending

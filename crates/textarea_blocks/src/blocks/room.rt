@@ -11,7 +11,7 @@ use textarea_util::limit::within_limit;
 use textarea_wrap::rows::Rows;
 
 /// The number of lines above which a block is halved when lines are added to it.
-const FULL: usize = 192;
+const FULL: usize = 48;
 
 impl RowBlocks {
     /// Reserves room for `replace_few` to replace the `count` lines from `row` on by `come` lines.
