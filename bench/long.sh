@@ -7,16 +7,19 @@
 # its calls as often as takes at least 50 ms.
 # - In a line full of matches: the next match, forward and back, where the two matches before were
 #   found in the same line; a pattern that is set, and its first search, or its first two, of which
-#   the second one stores matches. Then a text in the last of all lines.
+#   the second one stores matches. Then a text in the last of all lines, and a pattern there whose
+#   first characters aren't fixed.
 # - In a line that is wrapped at each 80 columns, and in wrapped lines of ten characters, at the
-#   end: the position that a cell shows, and Up and Down.
+#   end: the position that a cell shows, and Up and Down. In their middle also Page Down and Page Up,
+#   with a frame after each, and only a frame; a frame of 24 rows of two matches each.
 # - Forward and Back in a line that isn't wrapped, by characters and by words.
 # - A key and then a frame of 80 by 24, and only a frame. A key is in turns a character and
 #   Backspace.
 # - Forward and Back over the ranges of a line, and a call that sets them all; the same where each
 #   line has one range.
-# - All lines set, where each has ten bytes; and a paste of such lines into an empty text. Both
-#   include dropping the text that was there before.
+# - All lines set, where each has ten bytes; and a paste of such lines, or of one line, into an empty
+#   text. All include dropping the text that was there before.
+# - All lines selected and copied; and the wrap mode set in turns.
 # - Lines of 100 bytes with a match each: all set, all matches replaced, and that undone too.
 # - In a table of its own, frames of 24 full rows, for each of their cells.
 # CRATES is the folder of the crates in which `rt run` built tascript, by default that of this
@@ -161,6 +164,13 @@ loads_matched() {
     echo 'set_lines 0 0'
 }
 
+pastes_line() {
+    printf 'set_yank_text '
+    text $(( $1 / 10 )) 'word word '
+    echo
+    again "$2" <<< $'paste\nset_lines 0 0'
+}
+
 loads() {
     with_text 'set_lines 0 0' "$1" | again "$2"
     echo 'set_lines 0 0'
@@ -193,6 +203,12 @@ text_twice_back=$text_set$'\n'$back$'\n'$back
 word_twice=$word_set$'\n'$forward$'\n'$forward
 word_twice_back=$word_set$'\n'$back$'\n'$back
 needle='set_search_pattern needle'
+needle_by_class='set_search_pattern n[e]{2}dle'
+pages=$'page PageDown\npage PageUp'
+pages_shown=$'page PageDown\n'$frame$'\npage PageUp\n'$frame
+matched=$text_set$'\n'$frame
+copied=$'select_all\ncopy'
+modes=$'set_wrap_mode Word\nset_wrap_mode Glyph'
 all_kept=$needle$'\nset_max_histories 1000000'
 replaced='replace_all thread'$'\nset_search_pattern thread\nreplace_all needle\nset_search_pattern needle'
 replaced_undone=$'replace_all thread\nundo'
@@ -220,12 +236,20 @@ size_row "a text is set and searched for, by the line's length" microseconds 200
 size_row "a text is set and searched for twice, by the line's length" microseconds 2000 10000000 in_line 'word ' size/2 '' "$other_twice"
 size_row "a pattern of words is set and searched for, by the line's length" microseconds 2000 1000000 in_line 'word ' size/2 '' "$other_word"
 size_row "a text in the last line, by lines" "nanoseconds a line" size 1000000 in_lines 0 needle 'set_search_pattern needle' "$forward"
+size_row "\`n[e]{2}dle\` in the last line, forward, by lines" "nanoseconds a line" size 1000000 in_lines 0 needle "$needle_by_class" "$forward"
+size_row "the same, back" "nanoseconds a line" size 1000000 in_lines 0 needle "$needle_by_class" "$back"
 size_row "a cell's position at the end of a wrapped line, by its length" microseconds 1000 10000000 in_line 'word ' size-20 "$glyph" 'hit 5 12'
 size_row "the same, of characters of two bytes" microseconds 1000 10000000 in_line 'éàüöß' size-20 "$glyph" 'hit 5 12'
 size_row "the same at the end of wrapped lines, by lines" microseconds 1000 1000000 in_lines size-1 '' "$glyph" 'hit 5 12'
 size_row "Up or Down at the end of a wrapped line, by its length" microseconds 4000 10000000 in_line 'word ' size-20 "$glyph" "$up_down"
 size_row "the same, of characters of two bytes" microseconds 4000 10000000 in_line 'éàüöß' size-20 "$glyph" "$up_down"
 size_row "the same at the end of wrapped lines, by lines" microseconds 4000 1000000 in_lines size-1 '' "$glyph" "$up_down"
+size_row "Page Down or Page Up in wrapped lines, by lines" microseconds 2000 1000000 in_lines size/2 '' "$glyph" "$pages"
+size_row "the same, and a frame" microseconds 2000 1000000 in_lines size/2 '' "$glyph" "$pages_shown"
+size_row "the same, not wrapped" microseconds 2000 1000000 in_lines size/2 '' "$frame" "$pages_shown"
+size_row "only a frame of wrapped lines, by lines" microseconds 1000 1000000 in_lines size/2 '' "$glyph" "$frame"
+size_row "only a frame of two matches a row, wrapped at words, by lines" microseconds 1000 1000000 in_lines size/2 '' $'set_wrap_mode Word\n'"$matched" "$frame"
+size_row "the same, not wrapped" microseconds 1000 1000000 in_lines size/2 '' "$matched" "$frame"
 size_row "Forward or Back in a line's middle, by its length" microseconds 2000 10000000 in_line 'word ' size/2 '' "$there_and_back"
 size_row "the same by words" microseconds 4000 10000000 in_line 'word ' size/2 '' "$by_words"
 size_row "a key and a frame, not wrapped, at the line's end, by its length" microseconds 2000 10000000 in_line 'word ' size "$frame" "$key"
@@ -241,6 +265,9 @@ size_row "ranges of a line are set, by their number" "nanoseconds a range" size 
 size_row "the same in lines of one range" "nanoseconds a range" size 100000 set_ranges ranged_lines
 size_row "lines of ten bytes are set, by bytes" "nanoseconds a byte" size 10000000 loads
 size_row "lines of ten bytes are pasted, by bytes" "nanoseconds a byte" size 10000000 pastes
+size_row "one line is pasted, by bytes" "nanoseconds a byte" size 10000000 pastes_line
+size_row "all lines selected and copied, by lines" "nanoseconds a line" size 1000000 in_lines 0 '' '' "$copied"
+size_row "the wrap mode set in turns, by lines of 100 bytes" "nanoseconds a line" 2*size 100000 in_matched_lines "$glyph" "$modes"
 size_row "lines of 100 bytes are set, by lines" "nanoseconds a line" size 100000 loads_matched
 size_row "a match in each of them is replaced, with all others" "nanoseconds a match" 2*size 100000 in_matched_lines "$needle" "$replaced"
 size_row "the same, and an undo" "nanoseconds a match" size 100000 in_matched_lines "$all_kept" "$replaced_undone"
