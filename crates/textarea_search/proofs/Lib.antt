@@ -6,6 +6,7 @@ mod PatternLemmas
 mod AscendingLemmas
 pub mod ColumnLemmas
 pub mod ListedLemmas
+mod NeedleLemmas
 mod PlaceLemmas
 mod PlainTextLemmas
 mod PlainTextReading

@@ -63,7 +63,7 @@ byte_of_text bs text = each_byte bs (bytes_of_text bs text)
 
 -- ---- the matches
 
-as_read : (o : Option (Nested Re × Names)) (most : ℕ) (tree : Re) (names : Names) (line : List ℕ) → AreBytes line →
+pub as_read : (o : Option (Nested Re × Names)) (most : ℕ) (tree : Re) (names : Names) (line : List ℕ) → AreBytes line →
     IsSomeAnd o (λ (re, found). (re.depth ≤ most) × SameCaptures tree re.value × (names ≡ found) × (group_count tree ≤ length names)) →
     map span (find_all_str tree line) ≡ option_map_or (λ (found, _). map span (find_all_str found.value line)) o []
 as_read None most tree names line bytes h = absurd h
@@ -116,6 +116,17 @@ unfolding matches_from
 none_follow search zero = refl
 none_follow search (suc n) = refl
 
+-- a tree whose attempts all fail in a line lists no match there
+module _ (line : List ℕ) (tree : Re) (fails : (i : ℕ) → i ≤ length line → attempt line tree accept i ≡ None) where
+  none_found : find_str tree line 0 ≡ None
+  unfolding find_str
+  none_found = first_between_none _ 0 (length line) (λ i low high. none_if_false (is_boundary line i) _ (fails i high))
+
+  pub none_found-listed : map span (find_all_str tree line) ≡ []
+  none_found-listed =
+      ap (λ o. map span (matches_from (find_str tree line) (length line + 1) o)) none_found
+      ∙ ap (map span) (none_follow (find_str tree line) (length line + 1))
+
 module _ (line word : List ℕ) (missing : Nowhere (OccursAt line word) 0 (length line + 1)) where
   none_here : (i : ℕ) → i ≤ length line → attempt line (literal word) accept i ≡ None
   unfolding attempt
@@ -125,17 +136,8 @@ module _ (line word : List ℕ) (missing : Nowhere (OccursAt line word) 0 (lengt
         | inr elsewhere ↦ cond-false (has_bytes_at line i word) _ None elsewhere
       ]
 
-  none_found : find_str (literal word) line 0 ≡ None
-  unfolding find_str
-  none_found = first_between_none _ 0 (length line) (λ i low high. none_if_false (is_boundary line i) _ (none_here i high))
-
-  none_listed : map span (find_all_str (literal word) line) ≡ []
-  none_listed =
-      ap (λ o. map span (matches_from (find_str (literal word) line) (length line + 1) o)) none_found
-      ∙ ap (map span) (none_follow (find_str (literal word) line) (length line + 1))
-
   pub none_listed-text : spans_after (literal word) line 0 ≡ []
-  none_listed-text = ap (map span) (matches_after_text (literal word) line) ∙ none_listed
+  none_listed-text = ap (map span) (matches_after_text (literal word) line) ∙ none_found-listed line (literal word) none_here
 
 spans_as_text : (line word : List ℕ) (o : Option (Nested Re × Names)) → AreBytes line →
     IsSomeAnd o (λ (re, names). (re.depth ≤ 1) × SameCaptures re.value (literal word) × (names ≡ None ∷ [])) →

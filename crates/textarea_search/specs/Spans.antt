@@ -1,5 +1,6 @@
 -- The matches of a line, listed by the syntax tree of a compiled pattern.
-use Rattle.std.specs.Prelude.{◌≡◌, ◌≢◌, ℕ, ◌<◌, true, IsUtf8, List, length, map, slice_index}
+use Rattle.std.specs.Prelude.{◌≡◌, ◌≢◌, ℕ, ◌+◌, ◌<◌, Bool, true, IsUtf8, List, [], length, map, slice_index}
+use Rattle.memchr.specs.Find.{Nowhere, OccursAt}
 use Rattle.regex_hir.specs.Re.{literal}
 use Rattle.regex.specs.Patterns.{Re, span}
 use Rattle.regex.specs.Search.{matches_after}
@@ -27,6 +28,21 @@ pub record StartsOnce (text : List ℕ) : Type 0 where
   pub some : 0 < length text
   pub once : (k : ℕ) → 0 < k → k < length text → slice_index text k ≢ slice_index text 0
 
--- the tree lists the matches of this text, in which each character stands for itself
-abbrev pub IsNeedleOf : List ℕ → Re → Type 0
-IsNeedleOf needle tree = (line : List ℕ) → IsUtf8 line → spans_after tree line 0 ≡ spans_after (literal needle) line 0
+-- the text is nowhere in the line
+abbrev pub Lacks : List ℕ → List ℕ → Type 0
+Lacks line text = Nowhere (OccursAt line text) 0 (length line + 1)
+
+-- each match of the pattern has the text: a line that lacks the text has no match
+pub record IsInEachMatch (text pattern : List ℕ) : Type 0 where
+  pub none : (line : List ℕ) → IsUtf8 line → Lacks line text → match_spans pattern line ≡ []
+
+-- each match of the pattern has the text, and if the pattern is the text as a whole, its matches are those of the text, in
+-- which each character stands for itself
+pub record IsNeedleOf (text : List ℕ) (is_whole : Bool) (pattern : List ℕ) : Type 0 where
+  pub each : IsInEachMatch text pattern
+  pub whole : is_whole ≡ true → ListsMatchesOf pattern (literal text)
+
+-- the same for the syntax tree of a pattern
+pub record IsNeedleIn (text : List ℕ) (is_whole : Bool) (tree : Re) : Type 0 where
+  pub each : (line : List ℕ) → IsUtf8 line → Lacks line text → spans_after tree line 0 ≡ []
+  pub whole : is_whole ≡ true → (line : List ℕ) → IsUtf8 line → spans_after tree line 0 ≡ spans_after (literal text) line 0

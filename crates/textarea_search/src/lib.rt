@@ -4,5 +4,6 @@
 mod byte_pair;
 pub mod error;
 mod line_finder;
+mod needle;
 pub mod pattern;
 pub mod search;

@@ -1,13 +1,13 @@
-ghost use Rattle.std.specs.Prelude.{◌≡◌, IfOk, IfErr, IfSome, alloc_error, true};
-ghost use Rattle.regex_hir.specs.Re.{literal};
+ghost use Rattle.std.specs.Prelude.{◌≡◌, IfOk, IfErr, IfSome, alloc_error, string_bytes, true};
 ghost use Rattle.regex.specs.Patterns.{ReadsAsText};
 ghost use Rattle.regex.specs.Strings.{matcher_pattern, regex_source};
 ghost use Rattle.textarea_search.specs.PatternErrors.{IsPatternFailure, IsErrorFor, IsOwnFailure, IsBuiltByDefault};
-ghost use Rattle.textarea_search.specs.Spans.{ListsMatchesOf};
+ghost use Rattle.textarea_search.specs.Spans.{IsInEachMatch, IsNeedleOf, ListsMatchesOf};
 ghost use Rattle.textarea_search.specs.Starts.{IsTreeOf};
 
 use crate::error::SearchError;
 use crate::line_finder::LineFinder;
+use crate::needle::{Needle, text_of_each_match};
 use regex::{Matcher, Regex, escape};
 use std::alloc::{AllocError, Global};
 use std::marker::Model;
@@ -20,12 +20,15 @@ pub struct Pattern {
     alloc: Global,
     // Whether the pattern has no syntax, and so matches its own text.
     plain: bool,
+    // A text that each match has, where that is known of a pattern with syntax.
+    in_each: Option<Rc<String>>,
 }
 
 impl Model for Pattern {
-    ghost use Rattle.std.specs.Prelude.{◌≡◌, ℕ, List, true};
+    ghost use Rattle.std.specs.Prelude.{◌≡◌, ℕ, List, IfSome, string_bytes, true};
     ghost use Rattle.regex.specs.Strings.{regex_source, regex_config, IsReadFromSource};
     ghost use Rattle.regex.specs.Patterns.{ReadsAsText, default_config};
+    ghost use Rattle.textarea_search.specs.Spans.{IsInEachMatch};
 
     ghost Value = { List ℕ };
 
@@ -33,7 +36,8 @@ impl Model for Pattern {
 
     ghost invariant = { λ p. (regex_config p.regex.value ≡ default_config)
         × ∥ IsReadFromSource p.regex.value ∥₁
-        × (p.plain ≡ true → ReadsAsText (regex_source p.regex.value) (regex_source p.regex.value)) };
+        × (p.plain ≡ true → ReadsAsText (regex_source p.regex.value) (regex_source p.regex.value))
+        × IfSome p.in_each (λ text. IsInEachMatch (string_bytes text.value) (regex_source p.regex.value)) };
 }
 
 impl Pattern {
@@ -45,7 +49,8 @@ impl Pattern {
         ensures own { IfErr result (IsOwnFailure pattern.now) }
     {
         let plain = is_plain(alloc, pattern);
-        Pattern::of_built(alloc, Regex::new(alloc, pattern), plain)
+        let in_each = text_unless(plain, alloc, pattern);
+        Pattern::of_built(alloc, Regex::new(alloc, pattern), plain, in_each)
     }
 
     // Moves a compiled pattern into memory that can be shared. An error of `regex` is passed on
@@ -54,10 +59,13 @@ impl Pattern {
         alloc: Global,
         built: Result<Regex, regex::Error>,
         plain: bool,
+        in_each: Option<Rc<String>>,
     ) -> Result<Pattern, SearchError>
         requires built { IfOk built IsBuiltByDefault }
         requires plain { plain ≡ true →
             IfOk built (λ regex. ReadsAsText (regex_source regex) (regex_source regex)) }
+        requires in_each { IfSome in_each (λ text. IfOk built (λ regex.
+            IsInEachMatch (string_bytes text.value) (regex_source regex))) }
         ensures shared { IfOk built (λ regex. IfOk result (λ shared. shared ≡ regex_source regex)) }
         ensures memory { IfOk built (λ _. IfErr result (λ e. e ≡ SearchError.Memory alloc_error)) }
         ensures carried { IfErr built (λ error. result ≡ Err (SearchError.Pattern error)) }
@@ -68,6 +76,7 @@ impl Pattern {
                     regex,
                     alloc,
                     plain,
+                    in_each,
                 }),
                 Err(_) => Err(SearchError::Memory(AllocError)),
             },
@@ -95,18 +104,26 @@ impl Pattern {
             regex: self.regex.clone()?,
             alloc: self.alloc,
             plain: self.plain,
+            in_each: self.in_each.clone()?,
         })
     }
 
     /// Returns a finder of a text that each match has: the pattern itself, if it has no syntax.
-    pub(crate) fn finder(&self) -> Option<LineFinder<'_>>
-        ensures { IfSome result (λ needle. ListsMatchesOf self.now (literal needle)) }
+    pub(crate) fn needle(&self) -> Option<Needle<'_>>
+        ensures { IfSome result (λ needle.
+            IsNeedleOf needle.finder needle.is_whole self.now) }
     {
         if self.plain {
-            Some(LineFinder::new(self.text()))
-        } else {
-            None
+            return Some(Needle {
+                finder: LineFinder::new(self.text()),
+                is_whole: true,
+            });
         }
+        let text = self.in_each.as_ref()?;
+        Some(Needle {
+            finder: LineFinder::new(text.as_str()),
+            is_whole: false,
+        })
     }
 
     /// Returns a matcher for the matches of many lines.
@@ -116,6 +133,16 @@ impl Pattern {
     {
         self.regex.matcher(self.alloc)
     }
+}
+
+// Returns a text that each match of the pattern has, if one is found, and none of a plain pattern.
+fn text_unless(plain: bool, alloc: Global, pattern: &str) -> Option<Rc<String>>
+    ensures { IfSome result (λ text. IsInEachMatch (string_bytes text.value) pattern.now) }
+{
+    if plain {
+        return None;
+    }
+    text_of_each_match(alloc, pattern)
 }
 
 // Returns whether the pattern has no syntax. Also returns false if there is no memory to see that.

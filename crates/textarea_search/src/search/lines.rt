@@ -1,10 +1,10 @@
 //! The search from a cursor to a match start in a text, with one matcher for all lines.
 ghost use Rattle.std.specs.Prelude.{◌≡◌, ◌+◌, ◌^◌, ◌<◌, ℕ, Bool, None, find, length, reverse, slice_get, IfSome};
 ghost use Rattle.regex.specs.Strings.{matcher_pattern};
-ghost use Rattle.textarea_search.specs.Spans.{IsNeedleOf, columns_in};
+ghost use Rattle.textarea_search.specs.Spans.{IsNeedleIn, columns_in};
 ghost use Rattle.textarea_search.specs.Starts.{along, bytes_at, is_ahead_in_line, starts_by, found_start, IsPlaceFrom, IsPlaceIn};
 
-use crate::line_finder::LineFinder;
+use crate::needle::Needle;
 use crate::search::direction::Direction;
 use crate::search::listed_match::{column_ahead, end_column};
 use regex::Matcher;
@@ -12,12 +12,13 @@ use regex::Matcher;
 /// Returns the first position in these lines at which a match starts.
 fn first_start(
     matcher: &mut Matcher<'_>,
-    needle: &Option<LineFinder<'_>>,
+    needle: &Option<Needle<'_>>,
     lines: &[String],
     first_row: usize,
 ) -> Option<(usize, usize)>
     requires rows { first_row + length lines.now < 2 ^ 64 }
-    requires needle { IfSome needle.now (λ finder. IsNeedleOf finder (matcher_pattern matcher.old)) }
+    requires needle { IfSome needle.now (λ needle.
+        IsNeedleIn needle.finder needle.is_whole (matcher_pattern matcher.old)) }
     ensures found { result
         ≡ slice_get (starts_by (matcher_pattern matcher.old) first_row lines.now) 0 }
     ensures within { IfSome result (IsPlaceFrom first_row lines.now) }
@@ -34,12 +35,13 @@ fn first_start(
 /// Returns the last position in these lines at which a match starts.
 fn last_start(
     matcher: &mut Matcher<'_>,
-    needle: &Option<LineFinder<'_>>,
+    needle: &Option<Needle<'_>>,
     lines: &[String],
     first_row: usize,
 ) -> Option<(usize, usize)>
     requires rows { first_row + length lines.now < 2 ^ 64 }
-    requires needle { IfSome needle.now (λ finder. IsNeedleOf finder (matcher_pattern matcher.old)) }
+    requires needle { IfSome needle.now (λ needle.
+        IsNeedleIn needle.finder needle.is_whole (matcher_pattern matcher.old)) }
     ensures found { result
         ≡ slice_get (reverse (starts_by (matcher_pattern matcher.old) first_row lines.now)) 0 }
     ensures within { IfSome result (IsPlaceFrom first_row lines.now) }
@@ -59,14 +61,15 @@ fn last_start(
 /// at it. It wraps around at either end of the text.
 pub(crate) fn found_start(
     matcher: &mut Matcher<'_>,
-    needle: &Option<LineFinder<'_>>,
+    needle: &Option<Needle<'_>>,
     direction: Direction,
     lines: &[String],
     cursor: (usize, usize),
     match_cursor: bool,
 ) -> Option<(usize, usize)>
     requires row { cursor.0 < length lines.now }
-    requires needle { IfSome needle.now (λ finder. IsNeedleOf finder (matcher_pattern matcher.old)) }
+    requires needle { IfSome needle.now (λ needle.
+        IsNeedleIn needle.finder needle.is_whole (matcher_pattern matcher.old)) }
     ensures found { result ≡ found_start direction
         (starts_by (matcher_pattern matcher.old) 0 lines.now) cursor match_cursor }
     ensures within { IfSome result (IsPlaceIn lines.now) }
@@ -82,13 +85,14 @@ pub(crate) fn found_start(
 /// the search's direction from it.
 pub(crate) fn start_beyond(
     matcher: &mut Matcher<'_>,
-    needle: &Option<LineFinder<'_>>,
+    needle: &Option<Needle<'_>>,
     direction: Direction,
     lines: &[String],
     row: usize,
 ) -> Option<(usize, usize)>
     requires row { row < length lines.now }
-    requires needle { IfSome needle.now (λ finder. IsNeedleOf finder (matcher_pattern matcher.old)) }
+    requires needle { IfSome needle.now (λ needle.
+        IsNeedleIn needle.finder needle.is_whole (matcher_pattern matcher.old)) }
     ensures found { (column : ℕ) (at_column : Bool) → find (is_ahead_in_line direction column at_column)
         (along direction (columns_in (matcher_pattern matcher.old) (bytes_at lines.now row))) ≡ None
         → result ≡ found_start direction

@@ -1,13 +1,14 @@
 //! The matches that `regex` lists for a line, one after another. A matcher serves for many lines.
-ghost use Rattle.std.specs.Prelude.{◌≡◌, ◌+◌, ◌≤◌, ◌<◌, [], ◌∷◌, List, ℕ, length, take, find, reverse, encode_utf8_all, IsCharBoundary, IsUtf8, IfSome, IsSome, MatchOption, OnOk};
+ghost use Rattle.std.specs.Prelude.{◌≡◌, ◌+◌, ◌≤◌, ◌<◌, [], ◌∷◌, List, ℕ, length, take, find, reverse, encode_utf8_all, IsCharBoundary, IsUtf8, IfSome, IsSome, MatchOption, OnOk, true};
 ghost use Rattle.std.specs.Str.{chars};
 ghost use Rattle.regex_hir.specs.Re.{literal};
 ghost use Rattle.regex.specs.Strings.{matcher_pattern, match_span, match_haystack};
 ghost use Rattle.textarea_search.specs.Columns.{column_of_byte};
-ghost use Rattle.textarea_search.specs.Spans.{ListsMatchesOf, StartsOnce, spans_after, columns_in};
+ghost use Rattle.textarea_search.specs.Spans.{IsNeedleOf, StartsOnce, spans_after, columns_in};
 ghost use Rattle.textarea_search.specs.Starts.{IsFirstAhead, along, is_ahead_in_line, is_past};
 
 use crate::line_finder::LineFinder;
+use crate::needle::Needle;
 use crate::search::direction::Direction;
 use regex::{Match, Matcher};
 use std::alloc::AllocError;
@@ -95,22 +96,24 @@ fn byte_of(line: &str, column: usize) -> usize
 
 /// Returns the first column in the search's direction from the given one or, with `at_column`, at
 /// it, at which a match of a text starts that can't overlap itself: where the line has the text, so
-/// the search begins at the column. Returns `None` only for another needle.
+/// the search begins at the column. Returns `None` only for another text, and for one that matches
+/// only have.
 pub(crate) fn text_ahead(
-    needle: &Option<LineFinder<'_>>,
+    needle: &Option<Needle<'_>>,
     line: &str,
     direction: Direction,
     column: usize,
     at_column: bool,
 ) -> Option<Option<usize>>
     ensures found { (pattern : List ℕ) →
-        IfSome needle.now (λ text. ListsMatchesOf pattern (literal text)) →
+        IfSome needle.now (λ needle. IsNeedleOf needle.finder needle.is_whole pattern) →
         IfSome result (IsFirstAhead pattern line.now direction column at_column) }
-    ensures once { IfSome needle.now (λ text. StartsOnce text → IsSome result) }
+    ensures once { IfSome needle.now (λ needle.
+        needle.is_whole ≡ true → StartsOnce needle.finder → IsSome result) }
 {
     match needle {
-        Some(finder) if finder.starts_once() => {
-            Some(nearest_text(finder, line, direction, column, at_column))
+        Some(needle) if needle.is_whole && needle.finder.starts_once() => {
+            Some(nearest_text(&needle.finder, line, direction, column, at_column))
         }
         _ => None,
     }

@@ -4,10 +4,10 @@ ghost use Rattle.std.specs.List.Sorted.{IsNonDecreasingBy};
 ghost use Rattle.std.specs.Str.{chars};
 ghost use Rattle.regex.specs.Strings.{matcher_pattern};
 ghost use Rattle.textarea_search.specs.ListedMatches.{IsMatchIn, IsOneOf, after_match};
-ghost use Rattle.textarea_search.specs.Spans.{IsNeedleOf, columns_in, spans_after};
+ghost use Rattle.textarea_search.specs.Spans.{IsNeedleIn, columns_in, spans_after};
 ghost use Rattle.textarea_search.specs.Starts.{along, is_ahead_in_line, is_past};
 
-use crate::line_finder::LineFinder;
+use crate::needle::Needle;
 use crate::search::direction::Direction;
 use crate::search::listed::{column_from, is_past, nearest_text, next_listed};
 use regex::Matcher;
@@ -170,20 +170,22 @@ pub(crate) fn column_ahead(
 /// It passes over a line that lacks a text that each match has.
 pub(crate) fn end_column(
     matcher: &mut Matcher<'_>,
-    needle: &Option<LineFinder<'_>>,
+    needle: &Option<Needle<'_>>,
     line: &str,
     direction: Direction,
 ) -> Option<usize>
-    requires { IfSome needle.now (λ finder. IsNeedleOf finder (matcher_pattern matcher.old)) }
+    requires { IfSome needle.now (λ needle.
+        IsNeedleIn needle.finder needle.is_whole (matcher_pattern matcher.old)) }
     ensures found { result
         ≡ slice_get (along direction (columns_in (matcher_pattern matcher.old) line.now)) 0 }
     ensures within { IfSome result (λ start. start ≤ length (chars line.now)) }
     ensures same { matcher_pattern matcher.new ≡ matcher_pattern matcher.old }
 {
     let end = end_of(direction);
-    if let Some(finder) = needle {
+    if let Some(needle) = needle {
+        let finder = &needle.finder;
         finder.find(line.as_bytes())?;
-        if finder.starts_once() {
+        if needle.is_whole && finder.starts_once() {
             return nearest_text(finder, line, direction, end, true);
         }
     }

@@ -1,17 +1,16 @@
 ghost use Rattle.std.specs.Prelude.{◌≡◌, ◌≢◌, ◌<◌, ◌≤◌, ℕ, Bool, [], Some, find, length, option_map, IsNone, IsOk, IfOk, IfErr, IfSome, OnOk, OnErr};
 ghost use Rattle.std.specs.Option.{option_copied};
 ghost use Rattle.std.specs.Str.{chars};
-ghost use Rattle.regex_hir.specs.Re.{literal};
 ghost use Rattle.textarea_search.specs.PatternErrors.{IsPatternFailure, IsErrorFor, IsOwnFailure};
 ghost use Rattle.textarea_search.specs.Matches.{match_columns, match_spans};
-ghost use Rattle.textarea_search.specs.Spans.{ListsMatchesOf};
+ghost use Rattle.textarea_search.specs.Spans.{IsNeedleOf};
 ghost use Rattle.textarea_search.specs.Counts.{index_at};
 ghost use Rattle.textarea_search.specs.Starts.{IsFound, along, bytes_at, is_ahead_in_line, starts_of};
 ghost use Rattle.textarea_text.specs.Prelude.{size_limit, size_of};
 ghost use Rattle.textarea_search.specs.declared.search.direction.Direction.TheVariants.{Forward, Back};
 
 use crate::error::SearchError;
-use crate::line_finder::LineFinder;
+use crate::needle::Needle;
 use crate::pattern::Pattern;
 use crate::search::caching_matcher::CachingMatcher;
 use crate::search::counts::{count_in_lines, index_in_lines};
@@ -174,13 +173,13 @@ impl Search {
         };
         let (row, column) = cursor;
         let line = lines[row].as_str();
-        let finder = pattern.finder();
-        let known = match text_ahead(&finder, line, direction, column, match_cursor) {
+        let needle = pattern.needle();
+        let known = match text_ahead(&needle, line, direction, column, match_cursor) {
             Some(here) => Some(here),
             None => cached.start_ahead(pattern, line, direction, column, match_cursor)?,
         };
         match known {
-            Some(here) => find_known(pattern, &finder, direction, lines, row, here),
+            Some(here) => find_known(pattern, &needle, direction, lines, row, here),
             None => find_and_store(pattern, cached, direction, lines, cursor, match_cursor),
         }
     }
@@ -236,14 +235,15 @@ impl Search {
 // and else the first one beyond the line.
 fn find_known(
     pattern: &Pattern,
-    needle: &Option<LineFinder<'_>>,
+    needle: &Option<Needle<'_>>,
     direction: Direction,
     lines: &[String],
     row: usize,
     here: Option<usize>,
 ) -> Result<Option<(usize, usize)>, AllocError>
     requires row { row < length lines.now }
-    requires needle { IfSome needle.now (λ text. ListsMatchesOf pattern.now (literal text)) }
+    requires needle { IfSome needle.now (λ needle.
+        IsNeedleOf needle.finder needle.is_whole pattern.now) }
     requires within { IfSome here (λ start. start ≤ length (chars (bytes_at lines.now row))) }
     ensures { (column : ℕ) (at_column : Bool) →
         here ≡ find (is_ahead_in_line direction column at_column)
@@ -272,10 +272,10 @@ fn find_and_store(
     let mut matcher = pattern.matcher()?;
     let line = lines[cursor.0].as_str();
     let _ = cached.put_starts(cursor.0, &mut matcher, pattern.text(), line);
-    let finder = pattern.finder();
+    let needle = pattern.needle();
     Ok(found_start(
         &mut matcher,
-        &finder,
+        &needle,
         direction,
         lines,
         cursor,
