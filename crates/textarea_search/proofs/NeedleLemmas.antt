@@ -1,5 +1,6 @@
 -- A text that each match of a pattern has.
-use Rattle.std.proofs.Common.{◌≡◌, ◌+◌, ◌<◌, ◌∙◌, ◌∷◌, ℕ, List, [], Bool, true, false, All, IfSome, IsUtf8, None, ap, arith, length, map, subst, sym, zero-le}
+use Rattle.std.proofs.Common.{◌≡◌, ◌+◌, ◌<◌, ◌∙◌, ◌∷◌, ℕ, List, [], Bool, true, false, Global, IfSome, IsUtf8, None, Option, Some, Vec, arith, length, subst, sym, zero-le}
+use Rattle.std.specs.Prelude.{All}
 use Rattle.std.proofs.lemmas.Bool.{false≢true}
 use Rattle.regex_hir.specs.Matches.{Matches}
 use Rattle.regex_hir.specs.Meaning.{meaning}
@@ -12,6 +13,7 @@ use Rattle.regex_syntax.specs.Grammar.{Names}
 use Rattle.regex_syntax.specs.Verdict.{Reads}
 use Rattle.regex.specs.Patterns.{default_config}
 use Rattle.textarea_search.specs.Matches.{match_spans}
+use Rattle.textarea_search.specs.declared.needle.Needle.{Needle}
 use Rattle.textarea_search.specs.Spans.{IsInEachMatch, IsNeedleIn, IsNeedleOf, Lacks, ListsMatchesOf, spans_after}
 use Rattle.textarea_search.proofs.PatternLemmas.{as_read, bytes_of_text, none_found-listed, none_listed-text}
 
@@ -56,3 +58,17 @@ needle_of_whole pattern lists =
 -- a text that each match of a pattern has is a needle of the pattern, though not as a whole
 pub needle_of_part : (text pattern : List ℕ) → IsInEachMatch text pattern → IsNeedleOf text false pattern
 needle_of_part text pattern each = record { each = each; whole = λ is. absurd (false≢true is) }
+
+-- the only needle of a tree is a text that each match of its pattern has
+pub in_each_of_only : (pattern : List ℕ) (hir : Hir) (names : Names) (needles : List (List ℕ)) → Reads default_config pattern hir names →
+    ContainsNeedle (meaning hir) needles → (needle : Option (Vec ℕ Global)) → IfSome needle (λ only. needles ≡ only.items ∷ []) →
+    IfSome needle (λ bytes. IsInEachMatch bytes.items pattern)
+in_each_of_only pattern hir names needles reads contains None only = only
+in_each_of_only pattern hir names needles reads contains (Some needle) only =
+    in_each_match pattern hir names needle.items reads (subst (ContainsNeedle (meaning hir)) only contains)
+
+-- the needles of a pattern, if there are some, are those of each tree that lists its matches
+pub needle_of_each : (pattern : List ℕ) (tree : Re) → ListsMatchesOf pattern tree → (needle : Option Needle) →
+    IfSome needle (λ found. IsNeedleOf found.finder found.is_whole pattern) → IfSome needle (λ found. IsNeedleIn found.finder found.is_whole tree)
+needle_of_each pattern tree lists None needle = needle
+needle_of_each pattern tree lists (Some found) needle = needle_in_tree found.finder found.is_whole pattern tree lists needle

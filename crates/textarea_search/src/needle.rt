@@ -34,7 +34,9 @@ fn bytes_of_each_match(alloc: Global, pattern: &str) -> Option<Vec<u8>>
     let parsed = parse(alloc, pattern, &Config::default()).ok()?;
     let found = required(alloc, &parsed.hir);
     drop(parsed);
-    only_needle(found.ok()??)
+    let listed = found.ok()?;
+    let needles = listed?;
+    only_needle(needles)
 }
 
 // Returns the needle, if there is only one.

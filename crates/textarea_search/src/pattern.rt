@@ -120,8 +120,9 @@ impl Pattern {
             });
         }
         let text = self.in_each.as_ref()?;
+        let part = LineFinder::new(text.as_str());
         Some(Needle {
-            finder: LineFinder::new(text.as_str()),
+            finder: part,
             is_whole: false,
         })
     }

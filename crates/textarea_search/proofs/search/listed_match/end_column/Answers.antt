@@ -5,12 +5,12 @@ use Rattle.std.proofs.lemmas.List.Elements.{All-weaker}
 use Rattle.memchr.specs.Find.{Nowhere, OccursAt}
 use Rattle.regex_hir.specs.Re.{Re}
 use Rattle.regex.specs.Strings.{matcher_pattern}
-use Rattle.textarea_search.specs.Spans.{IsNeedleOf, columns_in}
+use Rattle.textarea_search.specs.Spans.{IsNeedleIn, columns_in}
 use Rattle.textarea_search.specs.Starts.{along, is_ahead_in_line}
 use Rattle.textarea_search.specs.declared.search.direction.Direction.{Direction}
 use Rattle.textarea_search.proofs.ColumnLemmas.{All-along, column_of_span}
 use Rattle.textarea_search.proofs.FromMatchLemmas.{columns_within}
-use Rattle.textarea_search.proofs.PatternLemmas.{no_columns, none_listed-text}
+use Rattle.textarea_search.proofs.PatternLemmas.{no_columns}
 use Rattle.textarea_search.proofs.StartLemmas.{find-first}
 use Rattle.textarea_search.proofs.search.listed_match.end_column.Goals as goal
 use Rattle.textarea_util.proofs.Characters.{length-chars}
@@ -28,12 +28,13 @@ pub returns-in_err-find-clause-found : goal.returns-in_err-find-clause-found
 returns-in_err-find-clause-found c =
     let tree = matcher_pattern c.args.matcher.now in
     let line = c.args.line.now in
-    let needle : IsNeedleOf c.in-Some.finder tree = subst (λ o. IfSome o (λ finder. IsNeedleOf finder tree)) c.in-Some.is c.requires in
+    let text = c.in-Some.needle.finder in
+    let needle : IsNeedleIn text c.in-Some.needle.is_whole tree =
+    subst (λ o. IfSome o (λ needle. IsNeedleIn needle.finder needle.is_whole tree)) c.in-Some.is c.requires in
     let nothing : c.from_residual.result ≡ None = search rules in
     nothing ∙ no_columns tree line c.args.direction
-    (needle line c.utf8.line
-    ∙ none_listed-text line c.in-Some.finder
-    (subst (λ (bs : List ℕ). Nowhere (OccursAt bs c.in-Some.finder) 0 (length bs + 1)) c.as_bytes.ensures.value c.in_err-find.ensures))
+    (needle.each line c.utf8.line
+    (subst (λ (bs : List ℕ). Nowhere (OccursAt bs text) 0 (length bs + 1)) c.as_bytes.ensures.value c.in_err-find.ensures))
 
 pub returns-then-starts_once-clause-found : goal.returns-then-starts_once-clause-found
 returns-then-starts_once-clause-found c =
@@ -43,9 +44,11 @@ returns-then-starts_once-clause-found c =
     let end = c.end_of-end.result in
     let passes : (column : ℕ) → column ≤ length (chars line) → is_ahead_in_line direction end true column ≡ true =
     λ column le. c.end_of-end.ensures column (omega (arith, le, length-chars line c.utf8.line)) in
-    let needle : IsNeedleOf c.in-Some.finder tree = subst (λ o. IfSome o (λ finder. IsNeedleOf finder tree)) c.in-Some.is c.requires in
+    let needle : IsNeedleIn c.in-Some.needle.finder c.in-Some.needle.is_whole tree =
+    subst (λ o. IfSome o (λ needle. IsNeedleIn needle.finder needle.is_whole tree)) c.in-Some.is c.requires in
+    let whole : c.in-Some.needle.is_whole ≡ true = search rules in
     c.nearest_text.ensures.found
-    ∙ ap (λ (ss : List (ℕ × ℕ)). find (is_ahead_in_line direction end true) (along direction (map (column_of_span line) ss))) (sym (needle line c.utf8.line))
+    ∙ ap (λ (ss : List (ℕ × ℕ)). find (is_ahead_in_line direction end true) (along direction (map (column_of_span line) ss))) (sym (needle.whole whole line c.utf8.line))
     ∙ first_of_all tree line c.utf8.line direction end passes
 
 pub returns-clause-found : goal.returns-clause-found

@@ -1,6 +1,8 @@
-use Rattle.std.proofs.Common.{ap, sym, refl, ◌∙◌}
+use Rattle.std.proofs.lemmas.Grind.{common_steps}
+use Rattle.std.proofs.Common.{ap, arith, sym, refl, ◌∙◌}
 use Rattle.textarea_search.specs.Matches.{match_spans}
 use Rattle.textarea_search.specs.Starts.{found_start, starts_by}
+use Rattle.textarea_search.proofs.NeedleLemmas.{needle_of_each}
 use Rattle.textarea_search.proofs.search.state.find_and_store.Goals as goal
 
 pub put_starts-requires : goal.put_starts-requires
@@ -14,3 +16,6 @@ returns c = record {
   within = c.found_start.ensures.within;
   no_pattern = λ _. refl;
 }
+
+pub found_start-requires-clause-needle : goal.found_start-requires-clause-needle
+found_start-requires-clause-needle c = grind (arith, common_steps, needle_of_each)

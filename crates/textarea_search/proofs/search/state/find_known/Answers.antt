@@ -5,6 +5,7 @@ use Rattle.regex.specs.Strings.{matcher_pattern}
 use Rattle.textarea_search.specs.Matches.{match_columns}
 use Rattle.textarea_search.specs.Starts.{along, bytes_at, found_start, is_ahead_in_line}
 use Rattle.textarea_search.proofs.PatternLemmas.{columns_listed}
+use Rattle.textarea_search.proofs.NeedleLemmas.{needle_of_each}
 use Rattle.textarea_search.proofs.PlaceLemmas.{place_at_bytes}
 use Rattle.textarea_search.proofs.StartLemmas.{found_here}
 use Rattle.textarea_search.proofs.search.state.find_known.Goals as goal
@@ -28,3 +29,7 @@ returns c = λ column at is.
       within = c.start_beyond.ensures.within;
       no_pattern = λ _. refl;
     }
+
+pub start_beyond-requires-clause-needle : goal.start_beyond-requires-clause-needle
+start_beyond-requires-clause-needle c =
+    needle_of_each c.args.pattern.now (matcher_pattern c.in_ok-matcher.matcher) c.in_ok-matcher.ensures.lists c.args.needle.now c.requires.needle

@@ -13,7 +13,7 @@ first_ahead c =
     let IsKnown : Option (Option ℕ) → Type 0 = λ known. IfSome known (IsFirstAhead c.in-Some.pattern c.as_str-line.result.now c.args.direction c.args.cursor.1 c.args.match_cursor) in
     let known : IsKnown c.match-text_ahead.known =
     elim c.match-text_ahead.branch [
-      | in-Some-text_ahead w ↦ subst IsKnown (w.in-Some-text_ahead.is ∙ sym w.known-is) (c.text_ahead.ensures.found c.in-Some.pattern c.finder-finder.ensures)
+      | in-Some-text_ahead w ↦ subst IsKnown (w.in-Some-text_ahead.is ∙ sym w.known-is) (c.text_ahead.ensures.found c.in-Some.pattern c.needle-needle.ensures)
       | in-None+in_ok-known-in-None w ↦ subst IsKnown (sym w.known-is) w.in_ok-known-in-None.ensures
     ] in
     subst IsKnown c.in-Some-known.is known
