@@ -77,3 +77,6 @@ pub first-taken : (text after : List ℕ) (c : ℕ) → text ≡ encode_utf8 c +
 first-taken text after c is =
     let same : len_utf8 c - 0 ≡ length (encode_utf8 c) = omega (arith, length-encode c) in
     ap₂ (λ (n : ℕ) (t : List ℕ). take n t) same is ∙ take-append_seam (encode_utf8 c) after
+
+pub bytes-first : (text after : List ℕ) (c : ℕ) → text ≡ encode_utf8 c ++ after → length text - length after ≡ len_utf8 c
+bytes-first text after c is = omega (arith, ap length is, length-append (encode_utf8 c) after, length-encode c)

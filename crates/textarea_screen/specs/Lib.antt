@@ -1,6 +1,7 @@
 pub mod Block
 pub mod Buffer
 pub mod Cell
+pub mod Characters
 pub mod Equal
 pub mod Inset
 pub mod Modifier

@@ -4,6 +4,7 @@ pub mod alignment;
 pub mod block;
 pub mod buffer;
 pub mod cell;
+mod characters;
 pub mod color;
 pub mod modifier;
 pub mod rect;

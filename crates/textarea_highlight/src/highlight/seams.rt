@@ -107,9 +107,9 @@ fn seam_after(row: &str, tab_len: u8, start: RowOffset, column: usize) -> usize
 }
 
 // The most bytes for each column with which a rest is short that begins with a character outside of
-// ASCII. Such a rest hardly ends right of the view, and to draw it costs less than to look for a seam
-// in it.
-const BYTES_OF_COLUMN: usize = 4;
+// ASCII. A row of marks or of joined pictures has no seam, and to draw such a rest, of which only the
+// view is drawn, costs less than to look for one in it.
+const BYTES_OF_COLUMN: usize = 8;
 
 // Returns whether few bytes follow an offset, for the columns that are left up to another column.
 fn is_rest_short(row: &str, at: RowOffset, column: usize) -> bool

@@ -4,6 +4,7 @@ ghost use Rattle.textarea_screen.specs.Cell.{cell_view, fresh_cell};
 ghost use Rattle.textarea_screen.specs.declared.screen.cell.TheConstants.{INLINE_BYTES};
 
 use super::cell::Cell;
+use super::characters::split_character;
 use super::rect::{Position, Rect};
 use super::style::Style;
 use std::alloc::{AllocError, Global};
@@ -110,7 +111,8 @@ impl Buffer {
     /// Puts those of the first characters of a text into the cells of row `y` that fit between the
     /// columns `x` and `end`, each into `columns` cells: itself into the first one, and the empty
     /// text into the others. Applies a style to these cells. Returns the column after them, and the
-    /// text after the characters.
+    /// text after the characters. It isn't inlined, so that its loop has all registers.
+    #[inline(never)]
     pub fn put_characters<'a>(
         &mut self,
         x: u16,
@@ -125,16 +127,43 @@ impl Buffer {
         requires end { (x ≤ end) × (end ≤ (area_of self.old).x + (area_of self.old).width) }
         ensures put { ArePut x y end columns style text.now result.1.now result.0 self.old self.new }
     {
+        if columns == 1 {
+            self.put_each(x, y, end, text, 1, style)
+        } else if columns == 2 {
+            self.put_each(x, y, end, text, 2, style)
+        } else {
+            self.put_each(x, y, end, text, columns, style)
+        }
+    }
+
+    /// Puts characters as `put_characters` does. It is inlined there for each common number of
+    /// columns.
+    #[inline(always)]
+    fn put_each<'a>(
+        &mut self,
+        x: u16,
+        y: u16,
+        end: u16,
+        text: &'a str,
+        columns: u16,
+        style: Style,
+    ) -> (u16, &'a str)
+        requires columns { 0 < columns }
+        requires start { IsTrue (contains (area_of self.old) x y) }
+        requires end { (x ≤ end) × (end ≤ (area_of self.old).x + (area_of self.old).width) }
+        ensures put { ArePut x y end columns style text.now result.1.now result.0 self.old self.new }
+    {
+        let place = self.place(x, y);
         let mut column = x;
         let mut rest = text;
         'characters: while columns <= end - column {
-            let mut characters = rest.chars();
-            let Some(c) = characters.next() else {
+            let Some((character, after)) = split_character(rest) else {
                 break;
             };
-            self.put_text(column, y, columns, &rest[..c.len_utf8()], style);
+            let at = place + usize::from(column - x);
+            self.put_at(at, Position { x: column, y }, columns, character, style);
             column += columns;
-            rest = characters.as_str();
+            rest = after;
         }
         (column, rest)
     }
@@ -151,6 +180,22 @@ impl Buffer {
         ensures { Changes self.old self.new (wide_change x y (x + columns) text.now true style) }
     {
         let place = self.place(x, y);
+        self.put_at(place, Position { x, y }, columns, text, style);
+    }
+
+    /// Puts a text as `put_text` does into the cells from a position on, whose index in the list of
+    /// all cells is known.
+    #[inline(always)]
+    fn put_at(&mut self, place: usize, at: Position, columns: u16, text: &str, style: Style)
+        requires columns { 0 < columns }
+        requires start { IsTrue (contains self.old.area at.x at.y) }
+        requires end { at.x + columns ≤ self.old.area.x + self.old.area.width }
+        requires inline { length text.now ≤ INLINE_BYTES }
+        requires place { place ≡ place_in self.old.area at.x at.y }
+        ensures { Changes self.old self.new
+            (wide_change at.x at.y (at.x + columns) text.now true style) }
+    {
+        let x = at.x;
         self.cells[place].put_inline(text, style);
         for column in x + 1..x + columns {
             self.cells[place + usize::from(column - x)].fill(true, style);

@@ -45,6 +45,7 @@ impl CellText {
     }
 
     /// Replaces the text by one of at most `INLINE_BYTES` bytes, without allocation.
+    #[inline(always)]
     fn replace_inline(&mut self, text: &str)
         requires { length text.now ≤ INLINE_BYTES }
         ensures { cell_text self.new ≡ text.now }
@@ -90,18 +91,23 @@ impl CellText {
 }
 
 /// Appends a text. Most characters have 1 to 4 bytes, and a flag has 8: a branch with a known number
-/// of bytes copies them without a loop.
+/// of bytes copies them without a loop. Those outside of ASCII mostly have 2 or 3, so these come first.
+#[inline(always)]
 fn push_text(inline: &mut ArrayString<INLINE_BYTES>, text: &str)
     requires { length inline.old.bytes + length text.now ≤ INLINE_BYTES }
     ensures { inline.new.bytes ≡ inline.old.bytes ++ text.now }
 {
-    match text.len() {
-        1 => inline.push_str(of_length::<1>(text)),
-        2 => inline.push_str(of_length::<2>(text)),
-        3 => inline.push_str(of_length::<3>(text)),
-        4 => inline.push_str(of_length::<4>(text)),
-        8 => inline.push_str(of_length::<8>(text)),
-        _ => inline.push_str(text),
+    if text.len() == 2 {
+        inline.push_str(of_length::<2>(text));
+    } else if text.len() == 3 {
+        inline.push_str(of_length::<3>(text));
+    } else {
+        match text.len() {
+            1 => inline.push_str(of_length::<1>(text)),
+            4 => inline.push_str(of_length::<4>(text)),
+            8 => inline.push_str(of_length::<8>(text)),
+            _ => inline.push_str(text),
+        }
     }
 }
 
@@ -161,6 +167,7 @@ impl Cell {
 
     /// Replaces the text by one of at most `INLINE_BYTES` bytes and applies a style, without
     /// allocation.
+    #[inline(always)]
     pub fn put_inline(&mut self, text: &str, style: Style)
         requires { length text.now ≤ INLINE_BYTES }
         ensures { cell_view self.new ≡ with_symbol text.now style (cell_view self.old) }

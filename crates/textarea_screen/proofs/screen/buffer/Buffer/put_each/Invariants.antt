@@ -2,7 +2,7 @@ use denote.Shadow.{shadow}
 use denote.Text.{Utf8}
 use Rattle.std.proofs.Common.{◌-◌}
 use Rattle.textarea_screen.proofs.CharacterLemmas.{IsPutting}
-use Rattle.textarea_screen.proofs.screen.buffer.Buffer.put_characters.Given as goal
+use Rattle.textarea_screen.proofs.screen.buffer.Buffer.put_each.Given as goal
 
 abbrev pub invariant-characters : goal.invariant-characters
 invariant-characters l = record {
