@@ -4,6 +4,7 @@ mod ClusterLemmas
 mod ColumnLemmas
 pub mod RowAreaLemmas
 mod FrontLemmas
+mod LeadLemmas
 mod LetterLemmas
 mod LetterPutLemmas
 pub mod PartLemmas

@@ -1,5 +1,6 @@
 -- Units: what joins a simple character is in its cluster, and a cluster ends after it before another unit.
-use Rattle.std.proofs.Common.{◌≡◌, ◌⊎◌, ℕ, suc, ◌+◌, ◌-◌, ◌<◌, ◌≤◌, Bool, true, false, cond, not, ◌&&◌, ◌||◌, ◌==◌, nat_lt, nat_le, List, [], ◌∷◌, ◌++◌, length, map, sum_by, take, drop, None, Some, Option, IfSome, inl, inr}
+use Rattle.std.proofs.Common.{◌≡◌, ◌⊎◌, ℕ, suc, ◌+◌, ◌-◌, ◌<◌, ◌≤◌, Bool, true, false, cond, not, ◌&&◌, ◌||◌, ◌==◌, nat_lt, nat_le}
+use Rattle.std.proofs.Common.{List, [], ◌∷◌, ◌++◌, length, map, sum_by, take, drop, None, Some, Option, IfSome, inl, inr}
 use Rattle.std.proofs.Common.{refl, sym, ap, ap₂, subst, ◌∙◌, arith}
 use Rattle.std.proofs.Math.Bool.{and-false, or-true}
 use Rattle.std.proofs.lemmas.Bool.{and_parts, cond-true, cond-false, eqb-true, false≢true}
@@ -624,8 +625,10 @@ first-unit columns bytes text utf8 some are = by are.units are.parts are.are_uni
         let seam : text ≡ front ++ back = parts ∙ encode-append u (one_after_another units) in
         let taken : take bytes text ≡ front = ap₂ (λ (n : ℕ) (t : List ℕ). take n t) (sym all.0.1) seam ∙ take-append_seam front back in
         let dropped : drop bytes text ≡ back = ap₂ (λ (n : ℕ) (t : List ℕ). drop n t) (sym all.0.1) seam ∙ drop-append_seam front back in
-        let scalars : all_scalars (u ++ one_after_another units) ≡ true =
-        front_scalars (u ++ one_after_another units) (chars []) (ap all_scalars (sym (chars-letters (u ++ one_after_another units) text [] utf8 (parts ∙ sym (append-nil (encode_utf8_all (u ++ one_after_another units)))))) ∙ scalars-chars text utf8) in
+        let all_units = u ++ one_after_another units in
+        let whole : text ≡ encode_utf8_all all_units ++ [] = parts ∙ sym (append-nil (encode_utf8_all all_units)) in
+        let scalars : all_scalars all_units ≡ true =
+        front_scalars all_units (chars []) (ap all_scalars (sym (chars-letters all_units text [] utf8 whole)) ∙ scalars-chars text utf8) in
         let back_utf8 : IsUtf8 back = (one_after_another units, (later_scalars u (one_after_another units) scalars, refl)) in
         let size = length-append front back in
         record {

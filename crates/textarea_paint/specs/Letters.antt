@@ -1,5 +1,7 @@
 -- Letters: each is a grapheme cluster by itself before another one, and its number tells its columns.
 use Rattle.std.specs.Prelude.{◌≡◌, ◌⊎◌, ℕ, ◌<◌, ◌≤◌, Bool, true, ◌||◌, nat_lt, List, [], ◌∷◌, ◌++◌, length, map, chars, encode_utf8, encode_utf8_all, if◌then◌else◌}
+use Rattle.std.specs.Char.{len_utf8}
+use Rattle.std.specs.Int.{is_in_range}
 use Rattle.std.specs.List.{AllByRecursion}
 use Rattle.ucd_table.specs.Rows.{Range, in_ranges}
 use Rattle.textarea_paint.specs.Columns.{columns_of}
@@ -45,6 +47,15 @@ IsLetter columns c = (0 < columns) × (letter_columns c ≡ columns)
 abbrev pub AreLetters : ℕ → List ℕ → Type 0
 AreLetters columns text = AllByRecursion (IsLetter columns) (chars text)
 
+-- the first byte of letters of one column and two bytes, from U+C0 to U+2FF and from U+380 to U+47F
+abbrev pub is_narrow_lead : ℕ → Bool
+is_narrow_lead byte = is_in_range 0xC3 0xCB byte || is_in_range 0xCE 0xD1 byte
+
+-- the first byte of letters of two columns and three bytes, from U+5000 to U+9FFF and from U+B000 to
+-- U+CFFF
+abbrev pub is_wide_lead : ℕ → Bool
+is_wide_lead byte = is_in_range 0xE5 0xE9 byte || is_in_range 0xEB 0xEC byte
+
 -- ---- texts of letters
 
 -- each character of a text as a text of its own
@@ -57,6 +68,14 @@ pub record BeginsWithLetter (columns : ℕ) (text after : List ℕ) : Type 0 whe
   pub parts : text ≡ encode_utf8 letter ++ after
   pub is_letter : IsLetter columns letter
   pub apart : begins_apart (chars text) ≡ true
+
+-- the text begins with a letter of this many columns and bytes
+pub record BeginsWithBytes (columns bytes : ℕ) (text : List ℕ) : Type 0 where
+  pub letter : ℕ
+  pub after : List ℕ
+  pub parts : text ≡ encode_utf8 letter ++ after
+  pub is_letter : IsLetter columns letter
+  pub size : len_utf8 letter ≡ bytes
 
 -- letters, at most `most`, are between the start of a text and the text after them, and a cluster
 -- begins with that

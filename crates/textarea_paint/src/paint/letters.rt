@@ -1,7 +1,7 @@
 //! Letters: each is a grapheme cluster by itself before another one, and its number tells its
 //! columns, without a table.
 ghost use Rattle.std.specs.Prelude.{◌≡◌, ◌-◌, ◌≤◌, ◌<◌, ◌==◌, ◌++◌, ◌∷◌, [], true, length, IfSome};
-ghost use Rattle.textarea_paint.specs.Letters.{AreLetters, BeginsWithLetter, IsAfterLetters, IsFirstLetter, letter_columns, letter_texts, european_letters, ideographs, is_narrow, is_wide, other_narrow_letters, other_wide_letters};
+ghost use Rattle.textarea_paint.specs.Letters.{AreLetters, BeginsWithBytes, BeginsWithLetter, IsAfterLetters, IsFirstLetter, letter_columns, letter_texts, european_letters, ideographs, is_narrow, is_narrow_lead, is_wide, is_wide_lead, other_narrow_letters, other_wide_letters};
 ghost use Rattle.textarea_paint.specs.Prelude.{graphemes, in_ranges};
 
 use super::simple::{Front, begins_apart, is_within, split_before};
@@ -80,7 +80,53 @@ fn is_one_longer(text: &str, after: &str) -> bool
 }
 
 /// Returns the text after a letter of this many columns, if a text begins with one.
+#[inline(always)]
 fn after_letter<'a>(text: &'a str, columns: usize) -> Option<&'a str>
+    requires { 0 < columns }
+    ensures { IfSome result (λ after. BeginsWithLetter columns text.now after.now) }
+{
+    let bytes = lead_bytes(text, columns);
+    if 0 < bytes {
+        Some(&text[bytes..])
+    } else {
+        after_any_letter(text, columns)
+    }
+}
+
+/// Returns the bytes of the letter of this many columns with which a text begins, if its first byte
+/// tells that it is one, or else 0.
+#[inline(always)]
+fn lead_bytes(text: &str, columns: usize) -> usize
+    ensures { 0 < result → BeginsWithBytes columns result text.now }
+{
+    let bytes = text.as_bytes();
+    if bytes.is_empty() {
+        0
+    } else if columns == 1 && is_narrow_lead(bytes[0]) {
+        2
+    } else if columns == 2 && is_wide_lead(bytes[0]) {
+        3
+    } else {
+        0
+    }
+}
+
+/// Returns whether a character whose first byte this is is a letter of one column and two bytes.
+fn is_narrow_lead(byte: u8) -> bool
+    ensures { result ≡ is_narrow_lead byte }
+{
+    0xC3 <= byte && byte <= 0xCB || 0xCE <= byte && byte <= 0xD1
+}
+
+/// Returns whether a character whose first byte this is is a letter of two columns and three bytes.
+fn is_wide_lead(byte: u8) -> bool
+    ensures { result ≡ is_wide_lead byte }
+{
+    0xE5 <= byte && byte <= 0xE9 || 0xEB <= byte && byte <= 0xEC
+}
+
+/// Returns the text after a letter as `after_letter` does, by the letter's number.
+fn after_any_letter<'a>(text: &'a str, columns: usize) -> Option<&'a str>
     requires { 0 < columns }
     ensures { IfSome result (λ after. BeginsWithLetter columns text.now after.now) }
 {

@@ -42,7 +42,10 @@ range_from-rest-requires c = λ some. (first _ _ _ _ c.units.invariant.text c.un
 
 pub returns-in_err-pen-clause-inline : goal.returns-in_err-pen-clause-inline
 returns-in_err-pen-clause-inline c = λ short.
-    cc (c.in_err-pen.ensures.inline (head-short (in_style c.args.units.style c.range-text.result.now) (ap (map (in_style c.args.units.style)) (first _ _ _ _ c.units.invariant.text c.units-test.ensures c.units.invariant.units c.range-text.ensures.value).clusters) (walk-short c.units.invariant.walk short)))
+    let style = c.args.units.style in
+    let clusters = (first _ _ _ _ c.units.invariant.text c.units-test.ensures c.units.invariant.units c.range-text.ensures.value).clusters in
+    let left = walk-short c.units.invariant.walk short in
+    cc (c.in_err-pen.ensures.inline (head-short (in_style style c.range-text.result.now) (ap (map (in_style style)) clusters) left))
 
 pub returns-in_err-pen-clause-err : goal.returns-in_err-pen-clause-err
 returns-in_err-pen-clause-err c = on_err c.from_residual.result (KeepsOutside-then (walk-outside c.units.invariant.walk c.requires.pen) c.in_err-pen.ensures.err)

@@ -1,9 +1,13 @@
-use Rattle.std.proofs.Common.{sym, ◌∙◌}
-use Rattle.textarea_paint.proofs.LetterLemmas.{begins-with}
+use Rattle.std.proofs.Common.{◌≡◌, ◌+◌, ◌++◌, drop, ap, subst, sym, ◌∙◌}
+use Rattle.std.proofs.lemmas.Str.{drop_past_char}
+use Rattle.std.specs.Str.{IsCharBoundary}
+use Rattle.textarea_paint.specs.Letters.{BeginsWithLetter}
+use Rattle.textarea_paint.proofs.LetterLemmas.{begins-with, letter-boundary}
+use Rattle.textarea_paint.proofs.LeadLemmas.{after-lead}
 use Rattle.textarea_paint.proofs.paint.letters.after_letter.Goals as goal
 
-pub returns-then-letter_columns-columns : goal.returns-then-letter_columns-columns
-returns-then-letter_columns-columns c =
-    begins-with c.args.columns c.args.text.now c.as_str.result.now c.in_ok-first.first c.utf8.text
-    (cc (c.in_ok-first.ensures.steps.0, c.chars-characters.ensures.rest, c.as_str.ensures))
-    (c.requires, sym c.letter_columns.ensures ∙ c.if-letter_columns-columns.true)
+pub range_from-requires-clause-start_boundary : goal.range_from-requires-clause-start_boundary
+range_from-requires-clause-start_boundary c = ?
+
+pub returns-then-bytes-gt0 : goal.returns-then-bytes-gt0
+returns-then-bytes-gt0 c = ?
