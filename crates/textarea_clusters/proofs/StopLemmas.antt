@@ -1,6 +1,7 @@
 -- The stops of a line, from the edges of its clusters and the ranges around its columns.
 use Rattle.std.proofs.Common.{◌≡◌, ◌∙◌, ◌⊎◌, inl, inr, ℕ, zero, suc, ◌+◌, ◌-◌, ◌<◌, ◌≤◌, ◌&&◌, Bool, true, false, List, length, not, is_some, Option, Some, None, refl, sym, ap, ap₂, arith}
 use Rattle.std.specs.Prelude.{if◌then◌else◌}
+use Rattle.std.proofs.Math.Bool.{and-false}
 use Rattle.std.proofs.lemmas.Bool.{false≢true, cases_lt}
 use Rattle.textarea_data.specs.declared.range.AtomicRange.{AtomicRange}
 use Rattle.textarea_data.specs.declared.range.AtomicCursorBias.TheVariants.{Backward, Forward}
@@ -110,10 +111,6 @@ no_edge_before_ahead line column k from below = no_edge_before_first line column
 pub no_stop_without_edge : (ranges : List AtomicRange) (line : List ℕ) (row column : ℕ) → is_cluster_edge line column ≡ false → is_column_stop ranges line row column ≡ false
 no_stop_without_edge ranges line row column e = ap (λ (b : Bool). b && not (is_some (range_around ranges (row, column)))) e
 
-and_false : (b : Bool) → (b && false) ≡ false
-and_false true = refl
-and_false false = refl
-
 some_around : {X : Type 0} (found : Option X) → (found ≡ None → ⊥) → is_some found ≡ true
 some_around None never = absurd (never refl)
 some_around (Some x) never = refl
@@ -126,10 +123,10 @@ no_stop_inside ranges line row column edge range e after before =
     let is = IsInside-is_inside (row, edge) range found.passes in
     let passes : is_inside (row, column) range ≡ true = is_inside-IsInside (row, column) range (is.0, after, before) in
     let none : (range_around ranges (row, column) ≡ None) → ⊥ = λ n. false≢true (sym (fails-find (is_inside (row, column)) ranges n found.index range found.within) ∙ ap (is_inside (row, column)) (found.at range) ∙ passes) in
-    ap (λ (b : Bool). is_cluster_edge line column && not b) (some_around (range_around ranges (row, column)) none) ∙ and_false (is_cluster_edge line column)
+    ap (λ (b : Bool). is_cluster_edge line column && not b) (some_around (range_around ranges (row, column)) none) ∙ and-false (is_cluster_edge line column)
 
 -- an edge in no range is a stop
-stop_of_edge : (ranges : List AtomicRange) (line : List ℕ) (row column : ℕ) → is_cluster_edge line column ≡ true → range_around ranges (row, column) ≡ None → is_column_stop ranges line row column ≡ true
+pub stop_of_edge : (ranges : List AtomicRange) (line : List ℕ) (row column : ℕ) → is_cluster_edge line column ≡ true → range_around ranges (row, column) ≡ None → is_column_stop ranges line row column ≡ true
 stop_of_edge ranges line row column edge none = ap₂ (λ (b : Bool) (found : Option AtomicRange). b && not (is_some found)) edge none
 
 -- the start of the range around a position, or its own column
@@ -196,7 +193,8 @@ column_back_is ranges line row zero stop le is none = omega (arith, le)
 column_back_is ranges line row (suc column) stop le is none =
     by (is_column_stop ranges line row (suc column)) refl (cases_lt stop (suc column)) (λ below. column_back_is ranges line row column stop (omega (arith, below)) is (λ k more within. none k more (omega (arith, within))))
   where
-    by : (b : Bool) → is_column_stop ranges line row (suc column) ≡ b → (stop < suc column) ⊎ (suc column ≤ stop) → (stop < suc column → stop ≡ column_back ranges line row column) → stop ≡ (if b then suc column else column_back ranges line row column)
+    by : (b : Bool) → is_column_stop ranges line row (suc column) ≡ b → (stop < suc column) ⊎ (suc column ≤ stop) → (stop < suc column → stop ≡ column_back ranges line row column)
+        → stop ≡ (if b then suc column else column_back ranges line row column)
     by true e (inl below) earlier = absurd (false≢true (sym (none (suc column) below (omega arith)) ∙ e))
     by true e (inr above) earlier = omega (arith, le, above)
     by false e (inl below) earlier = earlier below
@@ -211,7 +209,8 @@ first_stop_is ranges line row column zero stop le within is none = omega (arith,
 first_stop_is ranges line row column (suc more) stop le within is none =
     by (is_column_stop ranges line row column) refl (cases_lt column stop) (λ below. first_stop_is ranges line row (suc column) more stop (omega (arith, below)) (omega (arith, within)) is (λ k from less. none k (omega (arith, from)) less))
   where
-    by : (b : Bool) → is_column_stop ranges line row column ≡ b → (column < stop) ⊎ (stop ≤ column) → (column < stop → stop ≡ first_stop ranges line row (suc column) more) → stop ≡ (if b then column else first_stop ranges line row (suc column) more)
+    by : (b : Bool) → is_column_stop ranges line row column ≡ b → (column < stop) ⊎ (stop ≤ column) → (column < stop → stop ≡ first_stop ranges line row (suc column) more)
+        → stop ≡ (if b then column else first_stop ranges line row (suc column) more)
     by true e (inl below) later = absurd (false≢true (sym (none column (omega arith) below) ∙ e))
     by true e (inr above) later = omega (arith, le, above)
     by false e (inl below) later = later below

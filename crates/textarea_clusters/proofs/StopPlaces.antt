@@ -1,5 +1,5 @@
 -- Stops before and after a position: they are positions of the text, and nothing strictly contains them.
-use Rattle.std.proofs.Common.{◌≡◌, ◌∙◌, ℕ, zero, suc, ◌+◌, ◌-◌, ◌≤◌, ◌&&◌, Bool, true, false, List, length, not, is_some, Option, Some, None, refl, subst, sym, ap, ap₂, arith}
+use Rattle.std.proofs.Common.{◌≡◌, ◌∙◌, ℕ, zero, suc, ◌+◌, ◌-◌, ◌≤◌, Bool, true, false, List, length, Option, Some, None, refl, subst, sym, ap, arith}
 use Rattle.std.specs.Prelude.{if◌then◌else◌}
 use Rattle.textarea_text.specs.Place.{IsPlaceOf, Place, line_of}
 use Rattle.textarea_data.specs.declared.range.AtomicRange.{AtomicRange}
@@ -7,14 +7,11 @@ use Rattle.textarea_ranges.specs.Lookup.{is_inside, range_around}
 use Rattle.textarea_ranges.specs.Valid.{AreValid, IsRangeOfLine}
 use Rattle.textarea_ranges.proofs.Finds.{IsFirstFound-find}
 use Rattle.textarea_ranges.proofs.LookupLemmas.{IsInside-is_inside}
-use Rattle.textarea_clusters.specs.Edges.{is_cluster_edge}
 use Rattle.textarea_clusters.specs.Stops.{column_back, first_stop, is_column_stop, is_stop, stop_ahead, stop_back}
 use Rattle.textarea_clusters.proofs.EdgeLemmas.{edge_at_end, edge_at_start}
+use Rattle.textarea_clusters.proofs.StopLemmas.{stop_of_edge}
 
 -- ---- the two ends of a line
-
-stop_if_none : (ranges : List AtomicRange) (line : List ℕ) (row column : ℕ) → is_cluster_edge line column ≡ true → range_around ranges (row, column) ≡ None → is_column_stop ranges line row column ≡ true
-stop_if_none ranges line row column edge none = ap₂ (λ (b : Bool) (found : Option AtomicRange). b && not (is_some found)) edge none
 
 -- no range strictly contains the start of a line
 none_at_start : (ranges : List AtomicRange) (row : ℕ) → range_around ranges (row, 0) ≡ None
@@ -25,7 +22,7 @@ none_at_start ranges row = by (range_around ranges (row, 0)) refl
     by (Some range) e = absurd (omega (arith, (IsInside-is_inside (row, 0) range (IsFirstFound-find (is_inside (row, 0)) ranges range e).passes).1))
 
 pub start_is_stop : (ranges : List AtomicRange) (line : List ℕ) (row : ℕ) → is_column_stop ranges line row 0 ≡ true
-start_is_stop ranges line row = stop_if_none ranges line row 0 (edge_at_start line) (none_at_start ranges row)
+start_is_stop ranges line row = stop_of_edge ranges line row 0 (edge_at_start line) (none_at_start ranges row)
 
 -- nor its end
 none_at_end : (rows : List (List ℕ)) (ranges : List AtomicRange) (row : ℕ) → AreValid rows ranges → range_around ranges (row, length (line_of rows row)) ≡ None
@@ -43,7 +40,7 @@ none_at_end rows ranges row valid = by (range_around ranges place) refl
         absurd (omega (arith, inside.2, in_line.2, ap (λ r. length (line_of rows r)) inside.0))
 
 pub end_is_stop : (rows : List (List ℕ)) (ranges : List AtomicRange) (row : ℕ) → AreValid rows ranges → is_column_stop ranges (line_of rows row) row (length (line_of rows row)) ≡ true
-end_is_stop rows ranges row valid = stop_if_none ranges (line_of rows row) row (length (line_of rows row)) (edge_at_end (line_of rows row)) (none_at_end rows ranges row valid)
+end_is_stop rows ranges row valid = stop_of_edge ranges (line_of rows row) row (length (line_of rows row)) (edge_at_end (line_of rows row)) (none_at_end rows ranges row valid)
 
 -- ---- columns
 
