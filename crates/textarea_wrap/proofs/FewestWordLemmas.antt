@@ -1,6 +1,7 @@
 -- Greedy wrapping at unit ends has the fewest rows, if whitespace units are grapheme clusters.
+use Rattle.std.proofs.lemmas.List.{same_from_push}
 use Rattle.textarea_wrap.proofs.Prelude.{common_steps, cases_lt, length-map, nil_from_length}
-use Rattle.std.proofs.Common.{◌≡◌, ℕ, ◌<◌, ◌≤◌, ◌⊎◌, inl, inr, true, List, [], ◌∷◌, ◌++◌, length, refl, sym, ap, subst, ◌∙◌, ⊎_elim, append_assoc, append-nil, length-append, arith}
+use Rattle.std.proofs.Common.{◌≡◌, ℕ, ◌<◌, ◌≤◌, ◌⊎◌, inl, inr, true, List, [], ◌∷◌, ◌++◌, length, sym, ap, subst, ◌∙◌, ⊎_elim, append_assoc, append-nil, length-append, arith}
 use Rattle.textarea_wrap.specs.Prelude.{concat, flat_map, AllByRecursion, stretch_width, is_blank, line_units, Stretch, UnitBlock, shared, split, stretches_of, units_of, rows_of, FitsAfter}
 use Rattle.textarea_wrap.specs.Prelude.{IsFittingStretch, IsBlock, AreBlocks, IsGlyphWrapping, IsWordWrapping, AreFittingRows, IsFittingBlock, AreFittingBlocks, HasFewestWordRows}
 use Rattle.unicode_segmentation.specs.Grapheme.{graphemes}
@@ -14,12 +15,6 @@ BlankIsCluster unit = is_blank unit ≡ true → length (graphemes true unit) �
 
 abbrev pub AreBlanksClusters : Stretch → Type 0
 AreBlanksClusters units = AllByRecursion BlankIsCluster units
-
-push-injective : (a b : Stretch) (x y : List ℕ) → a ++ x ∷ [] ≡ b ++ y ∷ [] → (a ≡ b) × (x ≡ y)
-push-injective [] [] x y h = let e : x ≡ y = cc in (refl, e)
-push-injective [] (z ∷ b) x y h = absurd (omega (arith, ap length h, length-append b (y ∷ [])))
-push-injective (z ∷ a) [] x y h = absurd (omega (arith, ap length h, length-append a (x ∷ [])))
-push-injective (z ∷ a) (v ∷ b) x y h = grind (arith, common_steps)
 
 module _ (t w : ℕ) (row later : Stretch) (fit : IsFittingStretch t w row later) where
   front_within : stretch_width t fit.front ≤ w
@@ -35,14 +30,14 @@ module _ (t w : ℕ) (row later : Stretch) (fit : IsFittingStretch t w row later
   -- a unit that is too wide may only end the row, as whitespace after other units
   pub wide_ends : (front : Stretch) (unit : List ℕ) (back : Stretch) → row ≡ front ++ unit ∷ back → w < stretch_width t (unit ∷ []) → (back ≡ []) × (0 < length front) × (is_blank unit ≡ true)
   wide_ends front unit [] row_is wide =
-      grind (arith, common_steps, push-injective fit.front front fit.last unit (sym fit.stretch_is ∙ row_is), stretch_width-back t front (unit ∷ []))
+      grind (arith, common_steps, same_from_push fit.front front fit.last unit (sym fit.stretch_is ∙ row_is), stretch_width-back t front (unit ∷ []))
   wide_ends front unit (next ∷ back) row_is wide =
       grind (arith, common_steps, segment_within, append_assoc front (unit ∷ []) (next ∷ back), stretch_width-back t front (unit ∷ []))
 
   -- a run that begins later in the row fits too
   pub later_fits : (front stretch : Stretch) (next : List ℕ) (back : Stretch) → row ≡ front ++ (stretch ++ next ∷ back) → 0 < length stretch → FitsAfter t w stretch next (back ++ later)
   later_fits front stretch next [] row_is some =
-      let same = push-injective fit.front (front ++ stretch) fit.last next (sym fit.stretch_is ∙ row_is ∙ sym (append_assoc front stretch (next ∷ []))) in
+      let same = same_from_push fit.front (front ++ stretch) fit.last next (sym fit.stretch_is ∙ row_is ∙ sym (append_assoc front stretch (next ∷ []))) in
       let wider = stretch_width-back t front (stretch ++ next ∷ []) in
       let whole = ap (stretch_width t) (sym row_is ∙ fit.stretch_is) in
       ⊎_elim (λ within. inl (omega arith))

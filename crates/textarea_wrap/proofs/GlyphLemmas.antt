@@ -71,9 +71,6 @@ pub length-concat-map-push : (full : List Stretch) (stretch : Stretch) → lengt
 length-concat-map-push full stretch = simp (map-append, length-concat-push)
 
 module _ (tab_len width start : ℕ) (clusters : Stretch) (before : List (ℕ × ℕ)) where
-  abbrev Walk : List (ℕ × ℕ) → Stretch → ℕ → ℕ → ℕ → Type 0
-  Walk = IsGlyphWalk tab_len width start clusters before
-
   pub IsGlyphWalk-start : AllPieces (λ p. 0 < length p) clusters → IsGlyphWalk tab_len width start clusters before before clusters start start 0
   IsGlyphWalk-start some = record {
     full = [];

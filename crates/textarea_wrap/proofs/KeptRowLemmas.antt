@@ -218,6 +218,18 @@ wrapping_of kind t w (byte ∷ line) texts some h = h
 
 -- ---- the rows of the new line
 
+-- the two word modes have the same pieces
+like_words : (old line : List ℕ) (p : ℕ) → HaveSamePieces mode.WordOrGlyph old line p → HaveSamePieces mode.Word old line p
+like_words old line p same = record {
+  first = same.first;
+  second = same.second;
+  old_rest = same.old_rest;
+  line_rest = same.line_rest;
+  old_is = same.old_is;
+  line_is = same.line_is;
+  tail_is = same.tail_is;
+}
+
 module _ (t w : ℕ) (old line : List ℕ) (texts others : List (List ℕ)) (p k : ℕ) (u : IsUtf8 line) (valid : IsUtf8 old) (some : 0 < length line)
     (ranges : List (ℕ × ℕ)) (ranges_are : ranges ≡ ranges_from 0 (take k texts ++ others)) (bytes : length (concat (take k texts)) ≡ p) (start : IsCharBoundary line p) where
   front_size : length (take p line) ≡ p
@@ -242,10 +254,10 @@ module _ (t w : ℕ) (old line : List ℕ) (texts others : List (List ℕ)) (p k
   rows_kept : (kind : WrapMode) → HaveSamePieces kind old line p → IsParting kind line p → IsWrapping kind t w old texts → IsWrapping kind t w (drop p line) others → IsWrapped kind t w line ranges
   rows_kept mode.None same parting was rest = absurd (false≢true parting.apart)
   rows_kept mode.Word same parting was rest =
-      units_kept mode.Word (λ h. let no = h in absurd cc) (λ h. let no = h in absurd cc) (record { first = same.first; second = same.second; old_rest = same.old_rest; line_rest = same.line_rest; old_is = same.old_is; line_is = same.line_is; tail_is = same.tail_is }) was rest
+      units_kept mode.Word (λ h. let no = h in absurd cc) (λ h. let no = h in absurd cc) same was rest
   rows_kept mode.Glyph same parting was rest = glyphs_kept same was rest
   rows_kept mode.WordOrGlyph same parting was rest =
-      units_kept mode.WordOrGlyph (λ h. let no = h in absurd cc) (λ h. let no = h in absurd cc) (record { first = same.first; second = same.second; old_rest = same.old_rest; line_rest = same.line_rest; old_is = same.old_is; line_is = same.line_is; tail_is = same.tail_is }) was rest
+      units_kept mode.WordOrGlyph (λ h. let no = h in absurd cc) (λ h. let no = h in absurd cc) (like_words old line p same) was rest
 
 -- The rows before the row `k`, which begins at a parting that two more follow before the edit, and
 -- then the rows of the text from there on, moved to it.

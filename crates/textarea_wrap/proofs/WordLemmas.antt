@@ -1,8 +1,9 @@
 -- A walk over the units of a line, with the blocks that are full and the row that is open.
 use Rattle.textarea_wrap.proofs.Prelude.{common_steps, flat_map-append, concat-append}
 use Rattle.std.proofs.Common.{◌≡◌, ℕ, ◌+◌, ◌<◌, ◌≤◌, ◌⊎◌, inl, inr, true, List, [], ◌∷◌, ◌++◌, length, refl, sym, ap, subst, ◌∙◌, ⊎_elim, append_assoc}
+use Rattle.std.proofs.lemmas.List.{take_rest}
 use Rattle.std.specs.Result.{OnOk}
-use Rattle.std.proofs.Common.{append-nil, length-append, Result, rules, arith, map, ◌-◌, add-one, take, take_all, drop, drop-cons, length-drop, get_or, Bor}
+use Rattle.std.proofs.Common.{append-nil, length-append, Result, rules, arith, map, ◌-◌, add-one, take, drop, drop-cons, get_or, Bor}
 use Rattle.textarea_wrap.specs.Prelude.{concat, flat_map, AllByRecursion, chars, end_column, stretch_width, is_blank, Stretch, UnitBlock, shared}
 use Rattle.textarea_wrap.specs.Prelude.{split, units_of, rows_of, ranges_from, HangsOver, IsBlock, AreBlocks, IsGlyphWrapping, IsWordWalk}
 use Rattle.textarea_wrap.proofs.ColumnLemmas.{stretch_width-one, stretch_width-push}
@@ -184,16 +185,13 @@ unit_bytes = map (λ unit. unit.now)
 abbrev no_unit : Bor (List ℕ)
 no_unit = record { ref_ptr = (0, 0); now = [] }
 
-all_later : (units : List (Bor (List ℕ))) (i : ℕ) → take (length units - (i + 1)) (drop (i + 1) units) ≡ drop (i + 1) units
-all_later units i = take_all _ (drop (i + 1) units) (omega (arith, length-drop (i + 1) units))
-
 units_from : (units : List (Bor (List ℕ))) (i : ℕ) → i < length units → unit_bytes (drop i units) ≡ (get_or units i no_unit).now ∷ unit_bytes (drop (i + 1) units)
 units_from units i inside = let first : drop i units ≡ get_or units i no_unit ∷ drop (i + 1) units = rw (add-one, drop-cons units i no_unit) in ap unit_bytes first
 
 -- a unit, and those after it
 pub units_at : (units : List (Bor (List ℕ))) (i : ℕ) → i < length units
     → unit_bytes (drop i units) ≡ (get_or units i no_unit).now ∷ unit_bytes (take (length units - (i + 1)) (drop (i + 1) units))
-units_at units i inside = units_from units i inside ∙ ap (λ later. (get_or units i no_unit).now ∷ unit_bytes later) (sym (all_later units i))
+units_at units i inside = units_from units i inside ∙ ap (λ later. (get_or units i no_unit).now ∷ unit_bytes later) (sym (take_rest units (i + 1)))
 
 pub length-units_at : (units : List (Bor (List ℕ))) (i : ℕ) → i < length units
     → length (concat (unit_bytes (drop i units))) ≡ length (get_or units i no_unit).now + length (concat (unit_bytes (drop (i + 1) units)))
@@ -204,4 +202,4 @@ pub IsWordWalk-later : (tab_len width : ℕ) (all : Stretch) (before rows : List
     → IsWordWalk tab_len width all before rows (unit_bytes (take (length units - (i + 1)) (drop (i + 1) units))) row_start row_end column
     → IsWordWalk tab_len width all before rows (unit_bytes (drop (i + 1) units)) row_start row_end column
 IsWordWalk-later tab_len width all before rows row_start row_end column units i walk =
-    subst (λ later. IsWordWalk tab_len width all before rows (unit_bytes later) row_start row_end column) (all_later units i) walk
+    subst (λ later. IsWordWalk tab_len width all before rows (unit_bytes later) row_start row_end column) (take_rest units (i + 1)) walk

@@ -90,7 +90,8 @@ fn push_meeting(
         ++ moved 0 start (met_rows meeting.now.window.items meeting.now.count rows.now meeting.now.row)) }
 {
     let window = meeting.window.as_slice();
-    push_moved(ranges, &window[..meeting.count], 0, start)?;
+    let front_pushed = push_moved(ranges, &window[..meeting.count], 0, start);
+    front_pushed?;
     let from = rows[meeting.row].0;
     push_moved(
         ranges,
@@ -177,11 +178,12 @@ fn meeting_within(
         (IsMeeting mode tab_len width text.now rows.now)) }
 {
     let window = wrap_line(alloc, &text[..size], mode, width, tab_len)?;
-    let count = kept_count(text, window.as_slice(), mode, size);
+    let shown = window.as_slice();
+    let count = kept_count(text, shown, mode, size);
     if count == 0 {
         return Ok(None);
     }
-    let to = window.as_slice()[count].0;
+    let to = shown[count].0;
     match row_with_rest(old, rows, text, to, mode) {
         None => Ok(None),
         Some(row) => Ok(Some(Meeting { window, count, row })),
@@ -243,7 +245,9 @@ fn boundary_before(text: &str, at: usize) -> usize
 pub fn same_start(old: &str, line: &str) -> usize
     ensures { AgreeUntil old.now line.now result }
 {
-    boundary_before(line, same_bytes(old.as_bytes(), line.as_bytes()))
+    let old_bytes = old.as_bytes();
+    let line_bytes = line.as_bytes();
+    boundary_before(line, same_bytes(old_bytes, line_bytes))
 }
 
 // The number of bytes that are compared at once.
@@ -300,10 +304,12 @@ fn is_parting(line: &str, at: usize, mode: WrapMode) -> bool
     requires { IsCharBoundary line.now at }
     ensures { IsTrue result → IsParting mode line.now at }
 {
-    let Some(last) = line[..at].chars().next_back() else {
+    let mut before = line[..at].chars();
+    let Some(last) = before.next_back() else {
         return false;
     };
-    let Some(next) = line[at..].chars().next() else {
+    let mut after = line[at..].chars();
+    let Some(next) = after.next() else {
         return false;
     };
     parts(mode, last, next)

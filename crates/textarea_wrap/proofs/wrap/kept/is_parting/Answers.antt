@@ -12,9 +12,9 @@ returns c = λ yes.
     let scalar : IsScalar c.in-Some.last = grind arith in
     let front : take at line ≡ c.next_back.new.self.rest.now ++ encode_utf8 c.in-Some.last =
     let all : at - 0 ≡ at = omega arith in
-    ap (λ n. take n line) (sym all) ∙ sym c.range.ensures.value ∙ sym c.chars.ensures.rest ∙ c.in-Some.ensures.steps in
+    ap (λ n. take n line) (sym all) ∙ sym c.range.ensures.value ∙ sym c.chars-before.ensures.rest ∙ c.in-Some.ensures.steps in
     let back : drop at line ≡ encode_utf8 c.in-Some-next.next ++ c.next.new.self.rest.now =
-    sym c.range_from.ensures.value ∙ sym c.chars-2.ensures.rest ∙ c.in-Some-next.ensures.steps.0 in
+    sym c.range_from.ensures.value ∙ sym c.chars-after.ensures.rest ∙ c.in-Some-next.ensures.steps.0 in
     record {
       boundary = c.requires;
       before = chars c.next_back.new.self.rest.now;

@@ -16,13 +16,13 @@ returns-in-Some c =
     let window = c.in_ok-window.window.items in
     let some : 0 < count = omega (arith, c.if-count-eq0.false) in
     let all : size - 0 ≡ size = omega arith in
-    let is = c.as_slice.ensures in
+    let is = c.as_slice-shown.ensures in
     let inside : count < length window = subst (λ (w : List (ℕ × ℕ)). count < length w) is (c.kept_count-count.ensures.within some) in
     let partings = c.kept_count-count.ensures.partings some in
     let front : IsWrapped c.args.mode c.args.tab_len c.args.width (take size text) window =
     subst (λ t. IsWrapped c.args.mode c.args.tab_len c.args.width t window) (c.range.ensures.value ∙ ap (λ n. take n text) all) c.in_ok-window.ensures.rows in
     let shown = subst (λ (w : List (ℕ × ℕ)). ArePartings c.args.mode text (get_or w count (0, 0)).0 partings.0 partings.1 size) is partings.2 in
-    let same = subst (λ (w : List (ℕ × ℕ)). drop (get_or c.args.rows.now row (0, 0)).0 old ≡ drop (get_or w count (0, 0)).0 text) c.as_slice-2.ensures c.in-Some.ensures.same in
+    let same = subst (λ (w : List (ℕ × ℕ)). drop (get_or c.args.rows.now row (0, 0)).0 old ≡ drop (get_or w count (0, 0)).0 text) c.as_slice-shown.ensures c.in-Some.ensures.same in
     let long : length (take size text) ≡ size = length-take-le size text c.requires.boundary.0 in
     record {
       count_within = inside;

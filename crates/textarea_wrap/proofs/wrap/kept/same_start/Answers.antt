@@ -12,12 +12,12 @@ returns c =
     let before = c.boundary_before.ensures.before in
     let boundary = c.boundary_before.ensures.boundary in
     let all : take most c.args.old.now ≡ take most c.args.line.now =
-    ap (take most) (sym c.as_bytes.ensures.value) ∙ was.same ∙ ap (take most) c.as_bytes-2.ensures.value in
+    ap (take most) (sym c.as_bytes-old_bytes.ensures.value) ∙ was.same ∙ ap (take most) c.as_bytes-line_bytes.ensures.value in
     let same : take at c.args.old.now ≡ take at c.args.line.now = sym (take-take at most c.args.old.now before) ∙ ap (take at) all ∙ take-take at most c.args.line.now before in
     let within = was.old in
     record {
       valid = c.utf8.old;
-      old_boundary = IsCharBoundary-from_take c.args.old.now at c.utf8.old (omega (arith, within, ap length c.as_bytes.ensures.value, before)) (subst IsUtf8 (sym same) (IsUtf8-take c.args.line.now at c.utf8.line boundary));
+      old_boundary = IsCharBoundary-from_take c.args.old.now at c.utf8.old (omega (arith, within, ap length c.as_bytes-old_bytes.ensures.value, before)) (subst IsUtf8 (sym same) (IsUtf8-take c.args.line.now at c.utf8.line boundary));
       boundary = boundary;
       agree = same;
     }

@@ -16,7 +16,8 @@ record IsMarked (line : List ℕ) (rows : List (ℕ × ℕ)) (index column start
   column_is : column ≡ length (chars (take start line))
   few : column ≤ length line
 
-marked : (c : After-character_count-column) → IsMarked c.args.line.now (take (length c.args.rows.now.items - c.args.first) c.args.rows.now.items) c.loop-index.index (c.loop-index.column + c.character_count-column.result) (get_or c.as_slice.result.now (8 * c.loop-index.index + 7) (0, 0)).0
+marked : (c : After-character_count-column) → IsMarked c.args.line.now (take (length c.args.rows.now.items - c.args.first) c.args.rows.now.items) c.loop-index.index
+    (c.loop-index.column + c.character_count-column.result) (get_or c.as_slice.result.now (8 * c.loop-index.index + 7) (0, 0)).0
 marked c =
     let was = c.loop-index.invariant in
     let line = c.args.line.now in
