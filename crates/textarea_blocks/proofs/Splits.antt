@@ -4,7 +4,7 @@ use Rattle.std.proofs.lemmas.Bool.{cases_lt}
 use Rattle.std.proofs.lemmas.List.{append-nil, get_or_append_left, get_or-append-add, get_or-take, length-append, length-drop, length-set, length-take-le}
 use Rattle.std.specs.Result.{OnErr, OnOk}
 use Rattle.textarea_util.proofs.Replacing.{length-replaced}
-use Rattle.textarea_blocks.specs.Prelude.{BlocksView, FitsInBlock, IsBlockOf, IsSplit, RowsView, replaced, all_rows, lines_before}
+use Rattle.textarea_blocks.specs.Prelude.{BlocksView, FitsInBlock, IsBlockOf, IsSplitBlock, RowsView, replaced, all_rows, lines_before}
 use Rattle.textarea_blocks.proofs.InBlocks.{after_set, all_rows-append, before_more, before_set, lines_sum, one_block}
 use Rattle.textarea_blocks.proofs.Totals.{take_above, take_between}
 
@@ -50,7 +50,7 @@ halves old block at within inside =
 
 -- The half with the line `row` has room for the lines that the block had room for.
 split_fits :
-    (old now : BlocksView) (block at extra row index count come : ℕ) → IsSplit old now block at extra → block < length old.blocks
+    (old now : BlocksView) (block at extra row index count come : ℕ) → IsSplitBlock old now block at extra → block < length old.blocks
     → at ≤ length (get_or old.blocks block []) → lines_before old.blocks block + index ≡ row → index < length (get_or old.blocks block [])
     → FitsInBlock old row count come → come ≤ extra + min count (length (get_or old.blocks block []) - index) → FitsInBlock now row count come
 split_fits old now block at extra row index count come h within inside line there fits enough = λ k in_k.
@@ -75,7 +75,7 @@ split_fits old now block at extra row index count come h within inside line ther
 -- the same whether or not there was memory for the split
 pub halved_fits :
     {T E : Type 0} (result : Result T E) (old now : BlocksView) (block at extra row index count come : ℕ)
-    → OnOk result (IsSplit old now block at extra) → OnErr result (now ≡ old) → block < length old.blocks → at ≤ length (get_or old.blocks block [])
+    → OnOk result (IsSplitBlock old now block at extra) → OnErr result (now ≡ old) → block < length old.blocks → at ≤ length (get_or old.blocks block [])
     → lines_before old.blocks block + index ≡ row → index < length (get_or old.blocks block []) → FitsInBlock old row count come
     → come ≤ extra + min count (length (get_or old.blocks block []) - index) → FitsInBlock now row count come
 halved_fits (Ok v) old now block at extra row index count come h same within inside line there fits enough =

@@ -44,7 +44,7 @@ FitsInBlock view row count come =
 
 -- A block is split in two, of which the first has `at` lines. The room of the lines that left it is
 -- still there, and the second has room for `extra` lines.
-pub record IsSplit (old now : BlocksView) (block at extra : ℕ) : Type 0 where
+pub record IsSplitBlock (old now : BlocksView) (block at extra : ℕ) : Type 0 where
   pub blocks : now.blocks ≡ replaced (set old.blocks block (take at (get_or old.blocks block []))) (block + 1) 0 (drop at (get_or old.blocks block []) ∷ [])
   pub first : get_or now.spare block 0 ≡ get_or old.spare block 0 + (length (get_or old.blocks block []) - at)
   pub second : extra ≤ get_or now.spare (block + 1) 0

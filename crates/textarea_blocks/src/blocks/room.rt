@@ -1,7 +1,7 @@
 //! Room for changes of blocks, and block edges: all that allocates. Each call makes what it needs
 //! before it changes anything, so out of memory leaves the blocks and their room as they are.
 ghost use Rattle.std.specs.Prelude.{◌≡◌, ◌+◌, ◌-◌, ◌*◌, ◌<◌, ◌≤◌, ◌∷◌, [], length, take, drop, get_or, set, vec_capacity, vec_len, IfOk, OnErr, OnOk};
-ghost use Rattle.textarea_blocks.specs.Prelude.{size_limit, FitsInBlock, IsEdge, IsSplit, all_rows, row_total};
+ghost use Rattle.textarea_blocks.specs.Prelude.{size_limit, FitsInBlock, IsEdge, IsSplitBlock, all_rows, row_total};
 
 use super::RowBlocks;
 use super::numbers::shift_both;
@@ -87,7 +87,7 @@ impl RowBlocks {
         requires block { block < length self.old.blocks }
         requires at { at ≤ length (get_or self.old.blocks block []) }
         ensures same { all_rows self.new.blocks ≡ all_rows self.old.blocks }
-        ensures split { OnOk result (IsSplit self.old self.new block at extra) }
+        ensures split { OnOk result (IsSplitBlock self.old self.new block at extra) }
         ensures room { OnOk result (more ≤ self.new.more) }
         ensures err { OnErr result (self.new ≡ self.old) }
     {
