@@ -2,6 +2,7 @@
 use Rattle.std.proofs.Common.{◌≡◌, ◌≤◌, ◌<◌, ℕ, ◌+◌, ◌-◌, List, [], ◌∷◌, ◌++◌, length, take, drop, get_or, filter_map, Option, Some, None, All, refl, sym, ap, ◌∙◌, arith, subst}
 use Rattle.std.proofs.lemmas.Grind.{common_steps}
 use Rattle.std.proofs.Math.ListN.{set, length-set}
+use Rattle.std.proofs.lemmas.Grind.{drop_more_same}
 use Rattle.std.proofs.lemmas.List.{append_assoc, drop-drop, drop_more, drop-set-lt, take-append-drop, take_more_set}
 use Rattle.std.proofs.lemmas.List.Elements.{All-drop, All-head, All-tail, filter_map-append}
 use Rattle.std.specs.List.{cons_option}
@@ -33,10 +34,6 @@ all_after P xs index d within all =
 pub first_of_rest : {X : Type 0} (P : X → Type 0) (xs : List X) (index : ℕ) (d : X) → index < length xs → All P (drop index xs) → P (get_or xs index d)
 first_of_rest P xs index d within all = All-head P (get_or xs index d) (drop (index + 1) xs) (subst (All P) (drop_more xs index d within) all)
 
--- the same elements after an index are the same after the next one
-drop_next : {X : Type 0} (xs all : List X) (index : ℕ) → drop index xs ≡ drop index all → drop (index + 1) xs ≡ drop (index + 1) all
-drop_next xs all index same = sym (drop-drop 1 index xs) ∙ ap (drop 1) same ∙ drop-drop 1 index all
-
 -- the state of the list at the index
 pub record Closing {X : Type 0} (f : X → Option X) (P : X → Type 0) (xs : List X) (retained index first : ℕ) (all : List X) : Type 0 where
   pub ordered : retained ≤ index
@@ -51,7 +48,7 @@ closing_none f P xs all retained index first d within found h = record {
   ordered = omega (arith, h.ordered);
   len = h.len;
   each = all_after P xs index d within h.each;
-  rest = drop_next xs all index h.rest;
+  rest = drop_more_same xs all index h.rest;
   closes = closes_none f xs (closed f first all) retained index d within found h.closes;
 }
 
@@ -63,7 +60,7 @@ closing_some f P xs all retained index first d y within found h =
       ordered = omega (arith, h.ordered);
       len = length-set xs retained y ∙ h.len;
       each = subst (All P) (sym same) (all_after P xs index d within h.each);
-      rest = same ∙ drop_next xs all index h.rest;
+      rest = same ∙ drop_more_same xs all index h.rest;
       closes = closes_some f xs (closed f first all) retained index d y h.ordered within found h.closes;
     }
 

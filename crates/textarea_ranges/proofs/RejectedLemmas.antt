@@ -1,20 +1,13 @@
 -- A list is accepted exactly if it is valid; and the list of rejected ranges, range by range.
-use Rattle.std.proofs.Common.{◌≡◌, ◌≢◌, ◌↔◌, ℕ, ◌≤◌, List, [], ◌∷◌, ◌++◌, Option, Some, None, refl, sym, ap, ◌∙◌, inl, inr, arith, subst, zero-le, length, String}
+use Rattle.std.proofs.Common.{◌≡◌, ◌≢◌, ◌↔◌, ℕ, ◌≤◌, List, [], ◌∷◌, ◌++◌, Option, Some, None, refl, sym, ap, ◌∙◌, inl, inr, arith, subst, zero-le}
 use Rattle.std.proofs.lemmas.Bool.Decides.{nat_tests}
-use Rattle.std.proofs.lemmas.List.{get_or_past, length-map}
 use Rattle.std.proofs.lemmas.List.Elements.{All-from_recursion, recursion_from_All}
-use Rattle.textarea_ranges.specs.Prelude.{Global, AllByRecursion, AtomicRange, RejectedAtomicRange, AtomicRangeRejectReason, line_of, characters_of, lines_of, AreInOrder, in_order}
+use Rattle.textarea_ranges.specs.Prelude.{AllByRecursion, AtomicRange, RejectedAtomicRange, AtomicRangeRejectReason, AreInOrder, in_order}
 use Rattle.textarea_ranges.specs.Prelude.{is_range_before, free_from, last_valid, reason, rejected_after, rejected_of, with_reason, AreAccepted, AreRejected, AreDisjoint, AreValid, IsRangeOfLine}
 use Rattle.textarea_ranges.proofs.Lists.{AllPairs-later, EachLater, later-AllPairs}
 use Rattle.textarea_util.proofs.Alls.{all_both, all_weaker}
 use Rattle.textarea_ranges.proofs.Sorts.{NotBefore}
 use Rattle.textarea_ranges.proofs.OrderLemmas.{AreInOrder-in_order, each-in_order, each_from_in_order, later-in_order, later_from_in_order, sorted-in_order}
-
--- ---- lines
-
--- no row after the last line has characters
-pub no_columns : (lines : List (String Global)) (row : ℕ) → length lines ≤ row → 0 ≡ length (line_of (lines_of lines) row)
-no_columns lines row past = sym (ap length (get_or_past (lines_of lines) row [] (omega (arith, past, length-map lines characters_of))))
 
 -- ---- one range
 
