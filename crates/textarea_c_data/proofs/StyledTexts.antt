@@ -8,9 +8,9 @@ use Rattle.textarea_screen.specs.declared.screen.text.SpanText.{SpanText}
 use Rattle.textarea_screen.specs.declared.screen.text.SpanText.TheVariants.{Borrowed, Owned}
 use Rattle.textarea_view.specs.SurroundState.{span_bytes}
 use Rattle.textarea_c_data.specs.Copied.{saturated, written_at}
-use Rattle.textarea_c_data.specs.Spans.{joined_texts, lines_read, line_read, own_spans_read, span_read, spans_end, spans_read}
+use Rattle.textarea_c_data.specs.Spans.{joined_texts, lines_read, line_read, own_spans_read, spans_end}
 use Rattle.textarea_c_data.specs.Styles.{style_of_numbers}
-use Rattle.textarea_c_data.specs.Texts.{all_read, items_between, text_between}
+use Rattle.textarea_c_data.specs.Texts.{all_read, items_between}
 use Rattle.textarea_c_data.specs.declared.color.CColor.{CColor}
 use Rattle.textarea_c_data.specs.declared.spans.CLine.{CLine}
 use Rattle.textarea_c_data.specs.declared.spans.CSpan.{CSpan}
@@ -21,12 +21,6 @@ read_more : {A : Type 0} (xs : List A) (v : A) (others : Option (List A))
     → option_map (λ rest. (xs ++ v ∷ []) ++ rest) others ≡ option_map (λ rest. xs ++ rest) (all_read (Some v) others)
 read_more xs v None = refl
 read_more xs v (Some rest) = ap Some (append_assoc xs (v ∷ []) rest)
-
-pub span_more : (text : List ℕ) (from : ℕ) (xs : List SpanView) (span : CSpan) (spans : List CSpan) (v : SpanView) → span_read (text_between text from (from + span.bytes)) span ≡ Some v
-    → option_map (λ rest. (xs ++ v ∷ []) ++ rest) (spans_read text (from + span.bytes) spans) ≡ option_map (λ rest. xs ++ rest) (spans_read text from (span ∷ spans))
-span_more text from xs span spans v is =
-    subst (λ (one : Option SpanView). option_map (λ rest. (xs ++ v ∷ []) ++ rest) (spans_read text (from + span.bytes) spans) ≡ option_map (λ rest. xs ++ rest) (all_read one (spans_read text (from + span.bytes) spans)))
-    (sym is) (read_more xs v (spans_read text (from + span.bytes) spans))
 
 pub line_more : (text : List ℕ) (from : ℕ) (spans : List CSpan) (first : ℕ) (xs : List LineView) (line : CLine) (lines : List CLine) (v : LineView) (after : ℕ)
     → line_read (own_spans_read text from (items_between spans first (first + line.spans))) (style_of_numbers line.style) ≡ Some v → after ≡ spans_end from (slice_range spans first (first + line.spans))
