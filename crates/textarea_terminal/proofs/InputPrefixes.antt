@@ -1,12 +1,8 @@
 -- What the front of bytes makes of the rest.
 use Rattle.std.proofs.Common.{◌≡◌, ℕ, zero, suc, ◌+◌, ◌-◌, ◌*◌, ◌<◌, ◌≤◌, Bool, true, false, cond, min, List, [], ◌∷◌, length, get_or, take, drop, Some, None, refl, sym, ap, ◌∙◌, arith, drop-cons, add-one}
+use Rattle.std.proofs.lemmas.Option.{cond_some}
 use Rattle.textarea_terminal.specs.InputParameter.{is_digit, number_limit, digit_at, number_from}
 use Rattle.textarea_terminal.specs.InputSequence.{count_front}
-
--- a test that chose between a value and none
-chosen : {A : Type 0} (t : Bool) (a b : A) → cond t (Some a) None ≡ Some b → (t ≡ true) × (a ≡ b)
-chosen true a b e = (refl, cc)
-chosen false a b e = (cc)
 
 left_out : {A : Type 0} (t : Bool) (a : A) → cond t (Some a) None ≡ None → t ≡ false
 left_out true a e = (cc)
@@ -17,7 +13,7 @@ pub number_from-digit : (n : ℕ) (bytes : List ℕ) (x : ℕ × List ℕ) → d
 unfolding digit_at number_from
 number_from-digit n [] x e = (cc)
 number_from-digit n (b ∷ bytes) x e =
-    let h = chosen (is_digit b) (b - 48, bytes) x e in
+    let h = cond_some (is_digit b) (b - 48, bytes) x e in
     rw h.0 (ap (λ (y : ℕ × List ℕ). number_from (min number_limit (10 * n + y.0)) y.1) h.1)
 
 -- and ends where there is none

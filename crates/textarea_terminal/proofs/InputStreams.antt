@@ -1,6 +1,6 @@
 -- The decoding of bytes, event by event, and slice by slice.
 use Rattle.std.proofs.Common.{◌≡◌, ℕ, zero, suc, ◌-◌, ◌<◌, ◌≤◌, List, [], ◌∷◌, ◌++◌, length, take, drop, map, false, Some, None, refl, sym, ap, ◌∙◌, subst, arith}
-use Rattle.std.proofs.lemmas.List.{length-append, length-drop, append_assoc, append-nil, map-append, take-append-drop, take-append-le}
+use Rattle.std.proofs.lemmas.List.{length-append, append_assoc, append-nil, map-append, take-append-drop, take-append-le}
 use Rattle.std.proofs.Math.Seq.{drop-append_seam, take-append_seam}
 use Rattle.textarea_terminal.specs.declared.input.event.Event.{Event}
 use Rattle.textarea_terminal.specs.InputEvent.{EventValue, EventAndRest, input, value_of}
@@ -9,7 +9,7 @@ use Rattle.textarea_data.specs.declared.input.Input.{Input}
 use Rattle.textarea_terminal.specs.declared.input.reply.Expected.{Expected}
 use Rattle.textarea_terminal.specs.InputReply.{refined, refining, made}
 use Rattle.textarea_terminal.specs.InputStream.{Adds, AddsUpTo, EndsIn, Decoding, with_event, decoding_within, decoding, values_in, begun_bytes}
-use Rattle.textarea_terminal.proofs.InputUnits.{unit_at-consumed, unit_at-nil, take_whole}
+use Rattle.textarea_terminal.proofs.InputUnits.{unit_at-consumed, unit_at-nil}
 
 -- an event takes a byte at least
 pub unit_at-shorter : (bytes : List ℕ) (x : EventValue × List ℕ) → unit_at bytes ≡ Some x → length x.1 < length bytes
@@ -176,10 +176,6 @@ pub rest_of-removed : (items all new rest : List ℕ) (n left : ℕ) → items �
 rest_of-removed items all new rest n left same removed count unchanged is =
     let cut : n - left ≡ length items - length (begun_bytes items) = omega (arith, ap length is) in
     removed ∙ ap (λ (k : ℕ). drop k items) cut ∙ rest_of-drop items ∙ ap (λ (xs : List ℕ). begun_bytes xs) same
-
--- a slice from an index on
-pub sliced : (k : ℕ) (items : List ℕ) → take (length items - k) (drop k items) ≡ drop k items
-sliced k items = ap (λ (n : ℕ). take n (drop k items)) (sym (length-drop k items)) ∙ take_whole (drop k items)
 
 -- the same, where bytes at the front aren't read
 pub rest_of-dropped : (items : List ℕ) (k n left : ℕ) (rest : List ℕ) → n ≡ length items → left ≡ length rest → rest ≡ begun_bytes (drop k items) → drop (n - left) items ≡ begun_bytes (drop k items)

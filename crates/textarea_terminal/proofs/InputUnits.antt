@@ -1,6 +1,6 @@
 -- Each reader keeps what it read.
 use Rattle.std.proofs.Common.{◌≡◌, ℕ, zero, suc, ◌+◌, ◌-◌, ◌*◌, ◌==◌, ◌<◌, ◌≤◌, ◌≢◌, Bool, true, false, cond, eqb, ltb, List, [], ◌∷◌, ◌++◌, length, get_or, take, drop, Option, Some, None, refl, sym, ap, ◌∙◌, arith, inl, inr, ⊎_elim, subst}
-use Rattle.std.proofs.lemmas.List.{take-append-drop, take-append-le, drop-append-le, length-drop, length-append, append_assoc}
+use Rattle.std.proofs.lemmas.List.{take-append-drop, take-append-le, take_all, drop-append-le, length-drop, length-append, length-take-le, append_assoc}
 use Rattle.std.proofs.lemmas.Bool.{eqb-true, eqb-false, ne_eqb, cases_Bool}
 use Rattle.std.proofs.lemmas.Bool.Decides.{nat_tests}
 use Rattle.textarea_data.specs.declared.input.Key.{Key}
@@ -650,17 +650,12 @@ waits_string bytes = record {
       omega (arith, count_front-most is_text text_limit bytes, count_front-le is_text text_limit bytes, components.0, components.1, length-drop n bytes);
 }
 
-take_length : (n : ℕ) (bytes : List ℕ) → n ≤ length bytes → length (take n bytes) ≡ n
-take_length zero bytes h = refl
-take_length (suc n) [] h = omega arith
-take_length (suc n) (b ∷ bytes) h = ap suc (take_length n bytes (omega arith))
-
 string-begun : (n : ℕ) (bytes : List ℕ) → n ≤ length bytes → string_at (take n bytes) ≡ None → n - 1 ≤ count_front is_text text_limit bytes
 string-begun n bytes h e =
     let front = take n bytes in
     let m = count_front is_text text_limit front in
     let components = string_after_count-none m (drop m front) (sym (string_at-counted front) ∙ e) in
-    let long : length front ≡ n = take_length n bytes h in
+    let long : length front ≡ n = length-take-le n bytes h in
     omega (arith, components.1, length-drop m front, long, count_front-le is_text text_limit front, count_front-take is_text text_limit n bytes)
 
 not_string : (b : ℕ) → begins_string b ≡ true → (eqb b 91 ≡ false) × ((eqb b 79 ≡ false) × (eqb b 27 ≡ false))
@@ -676,12 +671,8 @@ begun_string b bytes zero h k e = omega arith
 begun_string b bytes (suc n) h k e =
     let begun = string-begun n bytes (omega arith) (sym (escape-string b (take n bytes) h) ∙ e) in omega arith
 
-pub take_whole : (xs : List ℕ) → take (length xs) xs ≡ xs
-take_whole [] = refl
-take_whole (x ∷ xs) = ap (λ ys. x ∷ ys) (take_whole xs)
-
 rest_whole : (b : ℕ) (bytes : List ℕ) → take (length (b ∷ bytes) - 1) bytes ≡ bytes
-rest_whole b bytes = let n : suc (length bytes) - 1 ≡ length bytes = omega arith in ap (λ (k : ℕ). take k bytes) n ∙ take_whole bytes
+rest_whole b bytes = take_all (suc (length bytes) - 1) bytes (omega arith)
 
 -- the same of the bytes after the first one
 pub begun_string_in : (bytes : List ℕ) (n : ℕ) → 0 < length bytes → begins_string (get_or bytes 0 0) ≡ true → n ≤ length bytes → escape_at (take n bytes) ≡ None →

@@ -1,7 +1,7 @@
 -- The steps from one cell of a frame to the next.
 use Rattle.std.proofs.Common.{zero, cond, not, ◌==◌, true≢false, None, Some, Option, ◌≡◌, ℕ, suc, ◌+◌, ◌-◌, ◌%◌, ◌<◌, ◌≤◌, Bool, true, false, ◌&&◌, ◌⊎◌, inl, inr, ⊎_elim, List, [], ◌∷◌, ◌++◌, length}
 use Rattle.std.proofs.Common.{get_or, map, take, drop, replicate, IfSome, refl, sym, ap, subst, ◌∙◌, arith, append_assoc, add-one, length-append}
-use Rattle.std.proofs.lemmas.Bool.{cases_Bool, cond-false, and_parts}
+use Rattle.std.proofs.lemmas.Bool.{cases_Bool, cond-false, and_parts, not-true}
 use Rattle.std.specs.Bool.{MatchBool}
 use Rattle.std.proofs.lemmas.List.{take_more, get_or-map, drop-map, drop_more, drop_all, drop_at, take_at, take_all, length-map, length-take-le, length-drop, append-nil, drop-replicate, take-replicate, replicate_more}
 use Rattle.std.proofs.Math.Seq.{drop-cons, drop-length}
@@ -15,7 +15,6 @@ use Rattle.textarea_terminal.specs.Pen.{in_look, look_of}
 use Rattle.textarea_terminal.specs.Screen.{Terminal, IsOfFamily, run, begins_half, mended, printed, rest_of, cursor_after, cluster_cells, first_of, settled_cells, settled_frame}
 use Rattle.textarea_terminal.specs.declared.output.brush.Brush.{Brush}
 use Rattle.textarea_terminal.proofs.ControlLemmas.{run-append, prints_of-append, moves_of-append, pens_of-append}
-use Rattle.textarea_terminal.proofs.DisputedBlank.{false-from_not}
 use Rattle.textarea_terminal.proofs.PaintFrames.{begins-whole, plain_half-half, whole-unit, whole-drop, columns-some}
 use Rattle.textarea_terminal.proofs.PaintLeft.{Damaged, Damaged-first, Damaged-rest, Ahead, Ahead-printed, Ahead-same, first-same, rest-same}
 use Rattle.textarea_terminal.proofs.SettledLemmas.{Shown, agreed-length, settled_cells-length, settled-first, settled-length, rest-whole, settled-drop}
@@ -423,7 +422,7 @@ Reaches-changed start before after columns index old new o n os ns xs ys old_at 
       (reaches.prints (printed_texts n ++ later) (rw (old_at.here, new_at.here) (inr (changes.whole, changes.changed, (later, refl, rw (old_at.next, new_at.next) at more)))));
   follows = not (is_disputed n.symbol);
   tracks = λ yes.
-      let agreed : is_disputed n.symbol ≡ false = false-from_not (is_disputed n.symbol) yes in
+      let agreed : is_disputed n.symbol ≡ false = not-true (is_disputed n.symbol) yes in
       let width = cluster_columns n.symbol in
       let news = whole-at columns index new n ns new_at new_whole (omega arith) changes.whole in
       let some = columns-some columns index n news.0 in
