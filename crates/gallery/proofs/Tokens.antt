@@ -1,5 +1,5 @@
 -- Mentions stay whole over inputs, and a new one covers its name.
-use Rattle.std.proofs.Common.{◌≡◌, ◌∙◌, ◌<◌, ℕ, IsAscii, List, [], ◌∷◌, ◌++◌, length, map, get_or, ap, sym, subst, arith, rules}
+use Rattle.std.proofs.Common.{◌≡◌, ℕ, IsAscii, List, [], ◌∷◌, ◌++◌, map, get_or, ap, sym, subst, arith, rules}
 use Rattle.std.specs.Prelude.{All, Contains, Result, Ok, Err, IfOk, OnOk, OnErr}
 use Rattle.std.specs.Str.{chars}
 use Rattle.std.proofs.lemmas.Str.{chars-IsAscii}

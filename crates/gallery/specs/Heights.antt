@@ -1,5 +1,5 @@
 -- The height of a prompt.
-use Rattle.std.specs.Prelude.{◌≡◌, ℕ, ◌+◌, ◌<◌, min, false}
+use Rattle.std.specs.Prelude.{◌≡◌, ◌+◌, ◌<◌, min, false}
 use Rattle.textarea_screen.specs.declared.screen.rect.Rect.{Rect}
 use Rattle.textarea_blocks.specs.Sums.{row_total}
 use Rattle.textarea_screen_map.specs.BorrowedLines.{BorrowedRows}

@@ -1,5 +1,5 @@
 -- Runs of the program: what the terminal sends, with the turns of its events, and what a crash then leaves on the disk.
-use Rattle.std.specs.Prelude.{◌≡◌, ◌⊎◌, ℕ, Bool, true, false, List, [], ◌∷◌, map, Option, None, Some, IfSome, string_bytes}
+use Rattle.std.specs.Prelude.{◌≡◌, ◌⊎◌, ℕ, Bool, true, false, List, [], ◌∷◌, map, Option, Some, IfSome, string_bytes}
 use Rattle.textarea_disk.specs.Disk.{Content, Disk, Leaves, MayLeave}
 use Rattle.textarea_disk.specs.Plan.{steps_of}
 use Rattle.textarea_disk.specs.Save.{CanBegin, HasBytes, Save, after}

@@ -1,5 +1,5 @@
 -- The number of edits of a group, counted from either end.
-use Rattle.std.proofs.Common.{◌≡◌, ◌≢◌, ◌==◌, eq-eqb, ℕ, zero, suc, ◌+◌, ◌-◌, ◌≤◌, ◌<◌, Bool, true, false, cond, List, [], ◌∷◌, length, take, drop, map, ◌&&◌, ◌||◌, ◌⊎◌, inl, inr, leb, get_or, sym, ap, refl, ◌∙◌, arith}
+use Rattle.std.proofs.Common.{◌≡◌, ◌≢◌, eq-eqb, ℕ, zero, suc, ◌+◌, ◌-◌, ◌≤◌, ◌<◌, Bool, true, false, cond, List, [], ◌∷◌, length, take, drop, map, ◌&&◌, ◌||◌, ◌⊎◌, inl, inr, leb, get_or, sym, ap, refl, ◌∙◌, arith}
 use Rattle.std.proofs.lemmas.Bool.{cases_lt}
 use Rattle.std.proofs.lemmas.Bool.Decides.{nat_tests}
 use Rattle.textarea_history.specs.Prelude.{Group, Log, Stored, Splice, group_count, log_in, newest_group, splice_in, is_empty, is_outgrown, is_filled, is_forgotten, Filled, grouped_before}

@@ -3,7 +3,7 @@ use Rattle.std.proofs.Common.{◌≡◌, ◌≢◌, ℕ, zero, suc, ◌+◌, ◌
 use Rattle.std.proofs.Common.{get_or, sym, ap, refl, ◌∙◌, subst, arith, eq-eqb}
 use Rattle.std.proofs.lemmas.Grind.{common_steps}
 use Rattle.std.proofs.lemmas.Bool.{eqb-true}
-use Rattle.std.proofs.lemmas.List.{reverse-append, length-append, length-drop, length-reverse, length-take-le, take-append-drop, nil_from_length, drop_more, drop_all, drop-append-le}
+use Rattle.std.proofs.lemmas.List.{reverse-append, length-append, length-reverse, length-take-le, take-append-drop, nil_from_length, drop_more, drop_all, drop-append-le}
 use Rattle.std.proofs.lemmas.Option.{get_or_from_slice_get, slice_get_within, slice_get-get_or}
 use Rattle.textarea_history.specs.Prelude.{Symbol, Place, Splice, Fits, applied, inverse, place_after, CanApply, CanUndo, IsTextBefore, merged, Log, Logged, Redoes, Undoes, appended_log, done_joined}
 use Rattle.textarea_history.specs.Prelude.{group_forgotten, grown, is_filled, is_full, is_grouped, is_outgrown, recorded, joined_log, joins, newest, next, oldest_group, redone, redone_by}

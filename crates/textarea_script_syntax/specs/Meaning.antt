@@ -1,5 +1,5 @@
 -- The meaning of a script's line, and how a name and its arguments give it.
-use Rattle.std.specs.Prelude.{ℕ, Bool, List, [], ◌∷◌, unwrap_or, Option, Some, None, option_map, option_and_then}
+use Rattle.std.specs.Prelude.{ℕ, Bool, List, [], unwrap_or, Option, Some, None, option_map, option_and_then}
 use Rattle.textarea_data.specs.declared.input.Input.{Input}
 use Rattle.textarea_data.specs.declared.range.AtomicRange.{AtomicRange}
 use Rattle.textarea_script_syntax.specs.Arguments.{Sides, named}

@@ -6,7 +6,7 @@ use Rattle.unicode_segmentation.specs.Segments.{breaks_at}
 use Rattle.textarea_clusters.specs.Edges.{HasNoBreak}
 use Rattle.textarea_clusters.proofs.EdgeLemmas.{ahead_within, boundary_of_column, edge_ahead_is, edge_is, found_ahead, inside_end}
 use Rattle.textarea_clusters.proofs.edges.edge_ahead.Goals as goal
-use Rattle.textarea_clusters.proofs.edges.edge_ahead.Goals.{After-byte_offset-offset, After-column_count}
+use Rattle.textarea_clusters.proofs.edges.edge_ahead.Goals.{After-byte_offset-offset}
 
 at_column : (c : After-byte_offset-offset) → IsCharBoundary c.args.line.now c.byte_offset-offset.result
 at_column c = boundary_of_column c.args.line.now c.args.column c.byte_offset-offset.result c.utf8.line c.byte_offset-offset.ensures

@@ -5,7 +5,7 @@ use Rattle.unicode_segmentation.specs.Segments.{breaks_at}
 use Rattle.textarea_clusters.specs.Edges.{HasNoBreak}
 use Rattle.textarea_clusters.proofs.EdgeLemmas.{boundary_of_column, counted_back, edge_back_is, edge_is, found_back, inside_start}
 use Rattle.textarea_clusters.proofs.edges.edge_back.Goals as goal
-use Rattle.textarea_clusters.proofs.edges.edge_back.Goals.{After-byte_offset-offset, After-break_before-edge, After-column_count}
+use Rattle.textarea_clusters.proofs.edges.edge_back.Goals.{After-byte_offset-offset}
 
 at_column : (c : After-byte_offset-offset) → IsCharBoundary c.args.line.now c.byte_offset-offset.result
 at_column c = boundary_of_column c.args.line.now c.args.column c.byte_offset-offset.result c.utf8.line c.byte_offset-offset.ensures

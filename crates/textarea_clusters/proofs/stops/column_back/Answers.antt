@@ -1,4 +1,4 @@
-use Rattle.std.proofs.Common.{◌≡◌, ap, arith}
+use Rattle.std.proofs.Common.{◌≡◌, arith}
 use Rattle.std.specs.Str.{chars}
 use Rattle.textarea_clusters.proofs.StopLemmas.{column_back_is}
 use Rattle.textarea_clusters.proofs.stops.column_back.Goals as goal

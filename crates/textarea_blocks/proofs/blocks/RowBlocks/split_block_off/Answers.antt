@@ -1,5 +1,5 @@
 use Rattle.std.proofs.lemmas.Grind.{common_steps}
-use Rattle.std.proofs.Common.{◌≡◌, ◌+◌, ◌-◌, ◌<◌, ◌≤◌, List, [], arith, drop, get_or, length, take, ℕ}
+use Rattle.std.proofs.Common.{◌≡◌, ◌+◌, ◌<◌, ◌≤◌, List, [], arith, drop, get_or, length, take, ℕ}
 use Rattle.std.proofs.lemmas.List.{length-drop, length-take-le}
 use Rattle.textarea_blocks.specs.Prelude.{RowsView, rows_of_each, row_total}
 use Rattle.textarea_blocks.proofs.InBlocks.{before_more, before_within, block_count, blocks_set, lines_sum, rows_are, rows_sum, spare_is, spare_set}

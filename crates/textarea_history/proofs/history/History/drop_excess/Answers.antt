@@ -1,4 +1,4 @@
-use Rattle.std.proofs.Common.{◌≡◌, ◌∙◌, ◌-◌, ap, sym, arith, take, drop, is_some, cond, length, eq-eqb, ne_eqb}
+use Rattle.std.proofs.Common.{◌≡◌, ◌∙◌, ◌-◌, ap, sym, arith, take, is_some, cond, length, eq-eqb, ne_eqb}
 use Rattle.textarea_history.specs.Prelude.{StoredLog, as_nanos, oldest_group}
 use Rattle.textarea_history.proofs.Stores.{place_made}
 use Rattle.textarea_history.proofs.history.History.drop_excess.Goals as goal

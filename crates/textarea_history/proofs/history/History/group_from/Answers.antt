@@ -1,5 +1,5 @@
-use Rattle.std.proofs.Common.{◌≡◌, ◌+◌, ◌-◌, ◌<◌, ◌∙◌, map, drop, length, sym, ap, arith, suc, get_or, true, false}
-use Rattle.textarea_history.specs.Prelude.{Log, StoredLog, grouped_first, grouped_in}
+use Rattle.std.proofs.Common.{◌≡◌, ◌+◌, ◌∙◌, map, drop, sym, ap, arith, suc, get_or, true, false}
+use Rattle.textarea_history.specs.Prelude.{StoredLog, grouped_first, grouped_in}
 use Rattle.textarea_history.proofs.Groups.{first_more, first_none, mark_at}
 use Rattle.textarea_history.proofs.history.History.group_from.Goals as goal
 

@@ -1,6 +1,6 @@
-use Rattle.std.proofs.Common.{◌≡◌, ◌∙◌, ap, arith, map, sym, drop, is_some, leb, length, subst}
+use Rattle.std.proofs.Common.{◌≡◌, ◌∙◌, ap, arith, map, sym, is_some, length, subst}
 use Rattle.std.proofs.lemmas.List.{length-map, length-take-le}
-use Rattle.textarea_history.specs.Prelude.{as_nanos, Group, Log, StoredLog, is_empty, is_outgrown, log_in, oldest_group, splice_in}
+use Rattle.textarea_history.specs.Prelude.{as_nanos, Group, Log, StoredLog, log_in, oldest_group, splice_in}
 use Rattle.textarea_history.proofs.Groups.{empty_drop, outgrown_at}
 use Rattle.textarea_history.proofs.history.History.is_outgrown.Goals as goal
 

@@ -1,5 +1,5 @@
-use Rattle.std.proofs.Common.{◌≡◌, ◌+◌, ◌-◌, ◌<◌, ◌∙◌, map, sym, ap, arith, suc, get_or, true, false}
-use Rattle.textarea_history.specs.Prelude.{as_nanos, StoredLog, grouped_before, grouped_in, newest_group}
+use Rattle.std.proofs.Common.{◌≡◌, ◌+◌, ◌-◌, ◌∙◌, map, sym, ap, arith, suc, get_or, true, false}
+use Rattle.textarea_history.specs.Prelude.{StoredLog, grouped_before, grouped_in}
 use Rattle.textarea_history.proofs.Groups.{before_more, before_none, mark_at, newest_group_at}
 use Rattle.textarea_history.proofs.history.History.newest_group.Goals as goal
 

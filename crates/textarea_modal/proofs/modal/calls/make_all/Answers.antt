@@ -1,6 +1,5 @@
 use Rattle.std.proofs.Common.{◌≡◌, ◌∙◌, ◌<◌, ℕ, List, length, get_or, map, subst, sym}
 use Rattle.std.proofs.lemmas.List.{get_or-map, length-map}
-use Rattle.textarea_calls.specs.Topics.{draws}
 use Rattle.textarea_calls.specs.declared.call.Call.{Call}
 use Rattle.textarea_modal.specs.Calls.{key_call}
 use Rattle.textarea_modal.specs.declared.step.KeyCall.{KeyCall}

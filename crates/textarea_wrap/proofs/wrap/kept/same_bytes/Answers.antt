@@ -1,4 +1,4 @@
-use Rattle.std.proofs.Common.{◌≡◌, ◌+◌, ◌-◌, ◌++◌, ap, ap₂, ◌∙◌, sym, arith, take, drop}
+use Rattle.std.proofs.Common.{◌≡◌, ◌+◌, ◌-◌, ap, ap₂, ◌∙◌, sym, arith, take, drop}
 use Rattle.std.specs.Cmp.Lexicographic.{same_text}
 use Rattle.textarea_wrap.proofs.Prelude.{take-add}
 use Rattle.textarea_wrap.proofs.wrap.kept.same_bytes.Goals as goal
