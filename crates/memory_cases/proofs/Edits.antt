@@ -1,10 +1,10 @@
 -- Edits of texts that fit, and that are well formed.
-use Rattle.std.proofs.Common.{true, false, Bool, min, cond, Some, ◌≡◌, ◌≢◌, ◌+◌, ◌-◌, ◌≤◌, ◌<◌, List, [], ◌∷◌, String, length, sym, ap, ◌∙◌, subst, arith, refl, ℕ}
+use Rattle.std.proofs.Common.{false, Bool, min, cond, Some, ◌≡◌, ◌≢◌, ◌+◌, ◌≤◌, ◌<◌, List, [], ◌∷◌, String, length, sym, ap, ◌∙◌, subst, arith, refl, ℕ}
 use Rattle.std.specs.Option.{IfSome}
 use Rattle.std.proofs.lemmas.Bool.Decides.{nat_tests}
 use Rattle.std.proofs.lemmas.List.{length-map}
 use Rattle.textarea_text.specs.Text.{Symbol, Character, characters, characters_of, joined, lines_of, text_of}
-use Rattle.textarea_text.specs.Place.{Place, IsPlace, IsPlaceOf, IsSymbolBefore, OccursAt, end, index_of}
+use Rattle.textarea_text.specs.Place.{Place, IsPlace, IsPlaceOf, OccursAt, end, index_of}
 use Rattle.textarea_text.specs.Splice.{Fits, Splice, applied, inverse}
 use Rattle.textarea_text.proofs.TextPlaces.{index_within, takes_back}
 use Rattle.textarea_text.proofs.Splices.{lines-joined}
@@ -73,24 +73,10 @@ ready text kind before after inserts is fragment_lines holds =
     let modifiers = subst (Holds text (symbols_of kind) before after) (sym is) holds in
     record { fragment_lines = fragment_lines; ends = modifiers.ends; fits = modifiers.fits }
 
-pub ready_inserted : (text : List Symbol) (kind : EditKind) (before after : Place) → inserts_of kind ≡ true → IfSome (line_count_of kind) (λ n. 2 ≤ n) → IsPlace text before
-    → after ≡ end before (symbols_of kind) → 0 < length (symbols_of kind) → IsEditReady text kind before after
-ready_inserted text kind before after is fragment_lines there ends some =
-    ready text kind before after true is fragment_lines (record { ends = ends; fits = record { some = some; is_place = there; allowed = tt } })
-
 pub ready_removed : (text : List Symbol) (kind : EditKind) (before after : Place) → inserts_of kind ≡ false → IfSome (line_count_of kind) (λ n. 2 ≤ n) → IsPlace text after
     → before ≡ end after (symbols_of kind) → 0 < length (symbols_of kind) → OccursAt text after (symbols_of kind) → IsEditReady text kind before after
 ready_removed text kind before after is fragment_lines there ends some occurs =
     ready text kind before after false is fragment_lines (record { ends = ends; fits = record { some = some; is_place = there; allowed = occurs } })
-
--- a removal of the symbol before a position
-pub ready_before : (text : List Symbol) (kind : EditKind) (before start : Place) (symbol : Symbol) → inserts_of kind ≡ false → symbols_of kind ≡ symbol ∷ []
-    → IfSome (line_count_of kind) (λ n. 2 ≤ n) → IsSymbolBefore text before start symbol → IsEditReady text kind before start
-ready_before text kind before start symbol is symbols_are fragment_lines known =
-    ready_removed text kind before start is fragment_lines known.is_place
-    (known.ends ∙ ap (end start) (sym symbols_are))
-    (subst (λ (s : List Symbol). 0 < length s) (sym symbols_are) (omega arith))
-    (subst (OccursAt text start) (sym symbols_are) known.occurs)
 
 -- a removal of the text between two positions
 pub ready_between : (text : List Symbol) (kind : EditKind) (before after : Place) → inserts_of kind ≡ false → symbols_of kind ≡ symbols_between text after before

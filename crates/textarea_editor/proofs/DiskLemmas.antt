@@ -1,11 +1,11 @@
 -- Lemmas on files: the hash of bytes that are read in pieces, and what is known of a file.
 use Rattle.std.proofs.Common.{◌≡◌, ◌++◌, ◌∷◌, ◌∙◌, ◌*◌, ◌^◌, ◌%◌, ℕ, Bool, true, false, if◌then◌else◌, List, [], Option, None, Some, refl, sym, ap, subst}
-use Rattle.std.proofs.lemmas.List.{append-nil, append_assoc}
-use Rattle.std.specs.Io.KnownBytes.{Consumes, IsAtEnd}
-use Rattle.std.specs.Prelude.{bit_xor, IfSome}
+use Rattle.std.proofs.KnownBytes.{Consumes-trans}
+use Rattle.std.specs.Io.KnownBytes.{Consumes}
+use Rattle.std.specs.Prelude.{bit_xor}
 use Rattle.textarea_disk.specs.ContentHash.{hash_from}
 use Rattle.textarea_disk.specs.Journal.{hash_of}
-use Rattle.textarea_editor.specs.DiskFiles.{HasHashOfRest, IsHashAfterPiece, IsQuestion, IsSaveOf, is_as_known, is_named, question_of}
+use Rattle.textarea_editor.specs.DiskFiles.{IsHashAfterPiece, IsQuestion, IsSaveOf, is_as_known, is_named, question_of}
 use Rattle.textarea_editor.specs.declared.disk.DiskFile.{DiskFile}
 use Rattle.textarea_editor.specs.declared.disk.known.Known.{Known}
 use Rattle.textarea_editor.specs.declared.disk.known.Stamp.{Stamp}
@@ -24,39 +24,15 @@ pub record IsReadTo (old now : Option (List ℕ)) (hash : ℕ) : Type 0 where
   pub consumed : Consumes old now done
   pub hashed : hash ≡ hash_of done
 
-consumes_none : (known : Option (List ℕ)) → Consumes known known []
-consumes_none None = tt
-consumes_none (Some bytes) = refl
-
-pub begun : (known : Option (List ℕ)) → IsReadTo known known 0xcbf2_9ce4_8422_2325
-begun known = record { done = []; consumed = consumes_none known; hashed = refl }
-
-consumes_both : (a b c : Option (List ℕ)) (p q : List ℕ) → Consumes a b p → Consumes b c q → Consumes a c (p ++ q)
-consumes_both None b c p q f h = tt
-consumes_both (Some x) None c p q f h = absurd f
-consumes_both (Some x) (Some y) None p q f h = absurd h
-consumes_both (Some x) (Some y) (Some z) p q f h = f ∙ ap (λ (t : List ℕ). p ++ t) h ∙ sym (append_assoc p q z)
-
 read_on : (a b c : Option (List ℕ)) (hash next : ℕ) → IsReadTo a b hash → IsHashAfterPiece b c hash (Some next) → IsReadTo a c next
 read_on a b c hash next to (piece, taken, is) = record {
   done = to.done ++ piece;
-  consumed = consumes_both a b c to.done piece to.consumed taken;
+  consumed = Consumes-trans a b c to.done piece to.consumed taken;
   hashed = is ∙ ap (λ (h : ℕ). hash_from h piece) to.hashed ∙ hash_append 0xcbf2_9ce4_8422_2325 to.done piece;
 }
 
 pub read_on_by : (a b c : Option (List ℕ)) (hash next : ℕ) (found : Option ℕ) → found ≡ Some next → IsReadTo a b hash → IsHashAfterPiece b c hash found → IsReadTo a c next
 read_on_by a b c hash next found is to after = read_on a b c hash next to (subst (λ (f : Option ℕ). IsHashAfterPiece b c hash f) is after)
-
-all_read : (a c : Option (List ℕ)) (done : List ℕ) (hash : ℕ) → Consumes a c done → IsAtEnd c → hash ≡ hash_of done → IfSome a (λ bytes. hash ≡ hash_of bytes)
-all_read None c done hash f end is = tt
-all_read (Some x) None done hash f end is = absurd f
-all_read (Some x) (Some y) done hash f end is = is ∙ ap hash_of (sym (f ∙ ap (λ (t : List ℕ). done ++ t) end ∙ append-nil done))
-
-pub read_end : (a b c : Option (List ℕ)) (hash : ℕ) → IsReadTo a b hash → IsHashAfterPiece b c hash None → HasHashOfRest a c hash
-read_end a b c hash to (taken, end) = record {
-  of_all = all_read a c (to.done ++ []) hash (consumes_both a b c to.done [] to.consumed taken) end (to.hashed ∙ ap hash_of (sym (append-nil to.done)));
-  none_left = end;
-}
 
 -- ---- what a save asks, and how it ends
 
@@ -73,7 +49,8 @@ asked_by file name text end true true is e = cc
 asked_by file name text end true false is e =
     let same : ended.ChangedOnDisk ≡ end = cc in subst (λ (s : SaveEnd). IsSaveOf file name text false s file) same (refl, is, refl)
 
-pub asked : (file : DiskFile) (name text : List ℕ) (overwrites : Bool) (now : Stamp) (question : Option SaveEnd) (end : SaveEnd) → overwrites ≡ false → IsQuestion file name now question → question ≡ Some end → IsSaveOf file name text overwrites end file
+pub asked : (file : DiskFile) (name text : List ℕ) (overwrites : Bool) (now : Stamp) (question : Option SaveEnd) (end : SaveEnd) → overwrites ≡ false
+    → IsQuestion file name now question → question ≡ Some end → IsSaveOf file name text overwrites end file
 asked file name text overwrites now question end never is e =
     let form : (kept : Bool) × (question_of file.known name now is.hash ≡ (if is_named file.known name then (if kept then None else Some ended.ChangedOnDisk) else Some ended.Exists)) = question_form file.known name now is.hash in
     let known : IsSaveOf file name text false end file = asked_by file name text end (is_named file.known name) form.0 refl (sym form.1 ∙ sym is.asked ∙ e) in

@@ -3,7 +3,7 @@ use Rattle.std.proofs.Common.{◌≡◌, ◌+◌, ◌∙◌, ◌⊎◌, ◌||◌
 use Rattle.std.proofs.Math.Bool.{or-false}
 use Rattle.std.proofs.Math.Seq.{take-append-add}
 use Rattle.std.specs.List.{list_any}
-use Rattle.std.proofs.lemmas.Bool.{false≢true}
+use Rattle.std.proofs.lemmas.Bool.{false≢true, or_parts}
 use Rattle.std.proofs.lemmas.List.{take-append-le}
 use Rattle.textarea_calls.specs.Edits.{edits}
 use Rattle.textarea_calls.specs.Topics.{draws}
@@ -11,7 +11,7 @@ use Rattle.textarea_calls.specs.declared.call.Call.{Call}
 use Rattle.textarea_calls.specs.declared.call.Call.TheVariants as call
 use Rattle.textarea_editor.specs.Draft.{Copy, FailsIn, FailsInSome, IsExact, IsHonest, IsChangeMark, IsMarkAfter, Makes, MakesSome, RunsShort, plain_call, plain_calls}
 use Rattle.textarea_editor.specs.declared.draft.Draft.{Draft}
-use Rattle.textarea_modal.proofs.Runs.{made_after, none_made, or_apart, ran_out_after}
+use Rattle.textarea_modal.proofs.Runs.{made_after, none_made, ran_out_after}
 use Rattle.textarea_modal.specs.Runs.{AllMade, OneRunsOut, RunsOutAt}
 use Rattle.textarea_text.specs.Text.{Symbol, lines}
 use Rattle.tui_textarea.specs.CallResults.{CallResult}
@@ -202,7 +202,7 @@ pub noted_made : (old left new : Draft) (calls : List Call) (may : Bool) → lef
     → IsNoted left (may || false) new → Makes old calls new
 noted_made old left new calls may copy same edit led note = record {
   made = subst (λ (s : State). AllMade old.area calls s) (sym (ap (λ (d : Draft). d.area) note.same)) led;
-  honest = noted_honest old left new (may || false) copy same (λ none. led.text (sym edit ∙ (or_apart may false none).0)) note;
+  honest = noted_honest old left new (may || false) copy same (λ none. led.text (sym edit ∙ (or_parts may false none).0)) note;
 }
 
 -- memory ran out in them
@@ -211,7 +211,7 @@ pub noted_failed : (old left new : Draft) (calls : List Call) (may : Bool) → l
 noted_failed old left new calls may copy same ran note = record {
   short = subst (λ (s : State). RunsShort old.area calls s) (sym (ap (λ (d : Draft). d.area) note.same))
       (record { index = ran.index; within = omega (arith, ran.ran_out.within); made = inr ran.ran_out });
-  honest = noted_honest old left new (may || true) copy same (λ none. absurd (false≢true (sym (or_apart may true none).1))) note;
+  honest = noted_honest old left new (may || true) copy same (λ none. absurd (false≢true (sym (or_parts may true none).1))) note;
 }
 
 -- of either result

@@ -17,11 +17,6 @@ join_by-last f sep (x ∷ xs) last =
     ap (λ l. f x ++ l) (spread f sep xs last ∙ ap (λ l. sep ++ l) (join_by-last f sep xs last))
     ∙ sym (ap (λ l. l ++ f last) (append_assoc (f x) sep rest) ∙ append_assoc (f x) (sep ++ rest) (f last) ∙ ap (λ l. f x ++ l) (append_assoc sep rest (f last)))
 
-pub flat_map-last : {X A : Type 0} (f : X → List A) (xs : List X) (last : X) → flat_map f (xs ++ last ∷ []) ≡ flat_map f xs ++ f last
-flat_map-last f [] last = append-nil (f last)
-flat_map-last f (x ∷ xs) last =
-    ap (λ l. f x ++ l) (flat_map-last f xs last) ∙ sym (append_assoc (f x) (flat_map f xs) (f last))
-
 feed_is : (x : ℕ) → (x == 10) ≡ true → x < 128
 feed_is x h = grind (arith, nat_tests)
 

@@ -1,6 +1,6 @@
 -- The characters of one class around a column, found from the line's start on.
 use Rattle.std.proofs.Common.{◌≡◌, ◌≢◌, ◌∙◌, ◌⊎◌, ℕ, ◌+◌, ◌-◌, ◌<◌, ◌≤◌, Bool, true, false, not, List, length, get_or, ap, arith, inl, inr, refl, subst, sym}
-use Rattle.std.proofs.lemmas.Bool.{false≢true, true≢false}
+use Rattle.std.proofs.lemmas.Bool.{false≢true, not-false, true≢false}
 use Rattle.std.proofs.lemmas.List.{get_or_default}
 use Rattle.textarea_editor.specs.Extents.{IsClassRun}
 use Rattle.textarea_text.specs.Words.{class_at, class_of, is_same_class}
@@ -30,10 +30,6 @@ is_other kind class differs test is same =
     let none : not (is_same_class kind class) ≡ false = ap not (subst (λ (k : CharKind). is_same_class kind k ≡ true) same (same_class kind)) in
     true≢false (sym is ∙ test ∙ none)
 
-not-false : (b : Bool) → not b ≡ false → b ≡ true
-not-false true is = refl
-not-false false is = absurd (true≢false is)
-
 pub is_no_other : (kind class : CharKind) (differs : Bool) → differs ≡ not (is_same_class kind class) → differs ≡ false → kind ≡ class
 is_no_other kind class differs test is = is_same kind class (not-false (is_same_class kind class) (sym test ∙ is))
 
@@ -51,14 +47,6 @@ pub record IsRunSoFar (line : List ℕ) (column count first : ℕ) (class : Char
   pub within : first ≤ count - 1
   pub same : (e : ℕ) → first ≤ e → e < count → class_at line e ≡ class
   pub other : first ≢ 0 → class_at line (first - 1) ≢ class
-
-pub run_none : (line : List ℕ) (column : ℕ) → IsRunSoFar line column 0 0 Space
-run_none line column = record {
-  begins = omega arith;
-  within = omega arith;
-  same = λ e from below. absurd (omega (arith, below));
-  other = λ is. absurd (is refl);
-}
 
 last_or_earlier : (e count : ℕ) → e < count + 1 → (e ≡ count) ⊎ (e < count)
 last_or_earlier e count below = grind (arith, below)

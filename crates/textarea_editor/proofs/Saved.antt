@@ -1,9 +1,9 @@
 -- Texts that are compared with the saved one.
-use Rattle.std.proofs.Common.{◌≡◌, ◌↔◌, ◌∙◌, ◌&&◌, Bool, IfSome, IsTrue, true, false, ℕ, List, [], ◌∷◌, None, Some, String, string_bytes, encode_utf8_all, ap, is_some, not, refl, subst, sym}
+use Rattle.std.proofs.Common.{◌≡◌, ◌↔◌, ◌∙◌, Bool, IfSome, IsTrue, true, false, ℕ, List, [], ◌∷◌, None, Some, String, string_bytes, encode_utf8_all, ap, is_some, not, refl, subst, sym}
 use Rattle.std.specs.Cmp.Lexicographic.{pointwise}
 use Rattle.std.specs.Prelude.{string_eq}
 use Rattle.std.specs.Str.{chars}
-use Rattle.std.proofs.lemmas.Bool.{false≢true}
+use Rattle.std.proofs.lemmas.Bool.{and_from, and_parts, false≢true}
 use Rattle.std.proofs.lemmas.Slice.Eq.{bytes_eq-Decides}
 use Rattle.std.proofs.lemmas.Str.{IsUtf8-string_bytes, encodes-chars}
 use Rattle.std.specs.declared.alloc.Global.{Global}
@@ -14,15 +14,6 @@ use Rattle.textarea_text.specs.Text.{Symbol, characters_of, joined, lines, lines
 use Rattle.tui_textarea.specs.State.{State}
 
 -- ---- lines that are compared
-
--- both of two are true
-both_true : (first second : Bool) → (first && second) ≡ true → (first ≡ true) × (second ≡ true)
-both_true true second is = (refl, is)
-both_true false second is = absurd (false≢true is)
-
-are_true : (first second : Bool) → first ≡ true → second ≡ true → (first && second) ≡ true
-are_true true second one other = other
-are_true false second one other = absurd (false≢true one)
 
 head_of : {A : Type 0} → A → List A → A
 head_of other [] = other
@@ -42,7 +33,7 @@ equal_lines [] [] is = refl
 equal_lines [] (y ∷ ys) is = absurd (false≢true is)
 equal_lines (x ∷ xs) [] is = absurd (false≢true is)
 equal_lines (x ∷ xs) (y ∷ ys) is =
-    let both = both_true (string_eq x y) (pointwise string_eq xs ys) is in
+    let both = and_parts (string_eq x y) (pointwise string_eq xs ys) is in
     ap (λ (l : List ℕ). l ∷ lines_of xs) (ap chars ((bytes_eq-Decides (string_bytes x) (string_bytes y)).0 both.0))
     ∙ ap (λ (l : List (List ℕ)). characters_of y ∷ l) (equal_lines xs ys both.1)
 
@@ -52,7 +43,7 @@ lines_equal [] [] is = refl
 lines_equal [] (y ∷ ys) is = let no : [] ≡ characters_of y ∷ lines_of ys = is in cc
 lines_equal (x ∷ xs) [] is = let no : characters_of x ∷ lines_of xs ≡ [] = is in cc
 lines_equal (x ∷ xs) (y ∷ ys) is =
-    are_true (string_eq x y) (pointwise string_eq xs ys)
+    and_from (string_eq x y) (pointwise string_eq xs ys)
     ((bytes_eq-Decides (string_bytes x) (string_bytes y)).1 (same_bytes x y (ap (λ (l : List (List ℕ)). head_of [] l) is)))
     (lines_equal xs ys (ap (λ (l : List (List ℕ)). tail_of l) is))
 

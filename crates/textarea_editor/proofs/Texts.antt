@@ -1,10 +1,9 @@
 -- Texts that are made character by character.
-use Rattle.std.proofs.Common.{◌≡◌, ◌∙◌, ℕ, Bool, true, false, List, [], ◌∷◌, ◌++◌, OnOk, Result, Ok, Err, String, string_bytes, if◌then◌else◌, ap, append-nil, append_assoc, sym}
-use Rattle.std.specs.Prelude.{chars, encode_utf8, is_ok}
+use Rattle.std.proofs.Common.{◌≡◌, ◌∙◌, ℕ, Bool, true, false, List, [], ◌∷◌, ◌++◌, String, string_bytes, if◌then◌else◌, ap, append-nil, append_assoc, sym}
+use Rattle.std.specs.Prelude.{chars}
 use Rattle.std.proofs.lemmas.Str.{chars-nil}
 use Rattle.textarea_editor.specs.Patterns.{ends_line, first_line}
 use Rattle.textarea_text.specs.Text.{characters_of}
-use Rattle.textarea_text.proofs.StringRows.{characters_of-pushed}
 
 -- a part is added, and the rest is what is left after it
 pub moved_on : (before now part left rest whole : List ℕ) → now ≡ before ++ part → left ≡ part ++ rest → before ++ left ≡ whole → now ++ rest ≡ whole
@@ -14,12 +13,6 @@ moved_on before now part left rest whole added first was =
 -- nothing is left
 pub none_left : (now rest whole : List ℕ) → rest ≡ [] → now ++ rest ≡ whole → now ≡ whole
 none_left now rest whole none was = sym (append-nil now) ∙ ap (λ l. now ++ l) (sym none) ∙ was
-
--- a character is added, unless memory runs out
-pub pushed_on_ok : {Z E T : Type 0} (old new : String Z) (c : ℕ) (result : Result T E) → string_bytes new ≡ (if is_ok result then string_bytes old ++ encode_utf8 c else string_bytes old)
-    → OnOk result (characters_of new ≡ characters_of old ++ c ∷ [])
-pushed_on_ok old new c (Ok value) bytes = characters_of-pushed old new c bytes
-pushed_on_ok old new c (Err error) bytes = tt
 
 -- ---- first lines
 

@@ -1,7 +1,7 @@
 -- Bytes that are shown.
 use Rattle.std.proofs.Common.{◌≡◌, ◌≢◌, ◌∙◌, ◌-◌, ◌≤◌, ℕ, zero, suc, Bool, true, false, List, [], ◌∷◌, ◌++◌, ap, append-nil, append_assoc, arith, drop, encode_utf8, if◌then◌else◌, length, length-append, refl, subst, sym, take}
 use Rattle.std.proofs.lemmas.Bool.{false≢true}
-use Rattle.std.proofs.lemmas.List.{drop_at, take_all, take_at}
+use Rattle.std.proofs.lemmas.List.{drop_at, nil_from_length, take_all, take_at}
 use Rattle.std.proofs.lemmas.Str.{IsUtf8-append, IsUtf8-encode, is_utf8-from_IsUtf8, length-encode, len_utf8_bounds}
 use Rattle.std.specs.Str.{IsUtf8, StartsWithNoChar, is_utf8}
 unfoldable use Rattle.std.specs.Str.Lossy.{utf8_valid_len}
@@ -14,14 +14,10 @@ use Rattle.textarea_editor.specs.Viewed.Piece.{Byte, Text}
 pub none_shown : ShowsBytes [] []
 none_shown = record { pieces = []; parted = tt; of_bytes = refl; shown = refl }
 
-nothing_left : (left : List ℕ) → length left ≡ 0 → left ≡ []
-nothing_left [] none = refl
-nothing_left (byte ∷ left) none = absurd (omega arith)
-
 -- what shows all bytes
 pub all_shown : (all left text : List ℕ) → length left ≡ 0 → ShowsBefore all left text → ShowsBytes all text
 all_shown all left text none before =
-    let at_end = subst (λ (l : List ℕ). ShowsBefore all l text) (nothing_left left none) before in
+    let at_end = subst (λ (l : List ℕ). ShowsBefore all l text) (nil_from_length left none) before in
     subst (λ (t : List ℕ). ShowsBytes all t) (append-nil text) (at_end [] none_shown)
 
 -- no text shows no bytes

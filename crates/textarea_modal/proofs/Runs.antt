@@ -1,8 +1,8 @@
 -- Runs of calls that draw nothing, one after another.
-use Rattle.std.proofs.Common.{◌≡◌, lit<, ℕ, ◌+◌, ◌<◌, ◌||◌, Bool, true, false, List, [], ◌∷◌, ◌++◌, map, take, length, get_or, slice_get, Some, OnErr, Result, Ok, Err, ap, refl, sym, subst, ◌∙◌, arith, length-append}
+use Rattle.std.proofs.Common.{◌≡◌, lit<, ℕ, ◌+◌, ◌<◌, true, false, List, [], ◌∷◌, ◌++◌, map, take, length, get_or, slice_get, Some, OnErr, Result, Ok, Err, ap, refl, sym, subst, ◌∙◌, arith, length-append}
 use Rattle.std.proofs.Math.Seq.{take-append-add}
 use Rattle.std.specs.List.{list_any}
-use Rattle.std.proofs.lemmas.Bool.{false≢true}
+use Rattle.std.proofs.lemmas.Bool.{or_parts}
 use Rattle.std.proofs.lemmas.List.Folds.{list_any-append, list_any_more}
 use Rattle.std.proofs.lemmas.List.{append-nil, map-append, take-append-le, get_or-append-add, get_or_append_left}
 use Rattle.std.proofs.lemmas.Option.{slice_get_read, get_or_from_slice_get}
@@ -38,18 +38,9 @@ pub on_err : {T E P : Type 0} (result : Result T E) → P → OnErr result P
 on_err (Ok value) holds = tt
 on_err (Err error) holds = holds
 
-pub on_err_weaker : {T E P Q : Type 0} (result : Result T E) → (P → Q) → OnErr result P → OnErr result Q
-on_err_weaker (Ok value) weaker holds = tt
-on_err_weaker (Err error) weaker holds = weaker holds
-
 -- no call was made
 pub none_made : (state : State) → AllMade state [] state
 none_made state = record { answers = []; run = λ buffer. (refl, refl); text = λ none. refl }
-
--- neither of two is true
-pub or_apart : (first second : Bool) → (first || second) ≡ false → (first ≡ false) × (second ≡ false)
-or_apart true second none = absurd (false≢true (sym none))
-or_apart false second none = (refl, none)
 
 -- the calls before this one were made, and then this one
 pub made_more : (old mid new : State) (calls : List Call) (index : ℕ) (call : Call) (answer : Answer) → index < length calls → call ≡ get_or calls index call
@@ -59,7 +50,7 @@ made_more old mid new calls index call answer within is_call so_far answered aft
   answers = so_far.answers ++ answer ∷ [];
   run = λ buffer. leads_more old mid new buffer buffer buffer calls so_far.answers index call answer within is_call (so_far.run buffer) (record { answered = answered; after = after; drawn = nothing.made new buffer });
   text = λ none.
-      let apart = or_apart (list_any edits (take index calls)) (edits (get_or calls index call)) (sym (list_any_more edits calls index call within) ∙ none) in
+      let apart = or_parts (list_any edits (take index calls)) (edits (get_or calls index call)) (sym (list_any_more edits calls index call within) ∙ none) in
       keeps (ap edits is_call ∙ apart.1) ∙ so_far.text apart.0;
 }
 
@@ -106,7 +97,7 @@ made_after old mid new calls later earlier rest = record {
   answers = earlier.answers ++ rest.answers;
   run = λ buffer. leads_after old mid new buffer calls later earlier.answers rest.answers (earlier.run buffer) (rest.run buffer);
   text = λ none.
-      let apart = or_apart (list_any edits calls) (list_any edits later) (sym (list_any-append edits calls later) ∙ none) in
+      let apart = or_parts (list_any edits calls) (list_any edits later) (sym (list_any-append edits calls later) ∙ none) in
       rest.text apart.1 ∙ earlier.text apart.0;
 }
 

@@ -1,11 +1,11 @@
 -- The layers of a frame, one after another, and the cells outside of them.
-use Rattle.std.proofs.Common.{◌≡◌, ℕ, Bool, true, false, IsTrue, List, Result, Ok, Err, OnOk, OnErr, IfOk, take, refl, sym, subst}
+use Rattle.std.proofs.Common.{◌≡◌, ℕ, Bool, true, false, List, Result, Ok, Err, OnOk, OnErr, IfOk, take, refl, sym, subst}
 use Rattle.std.proofs.lemmas.Bool.{cond-false}
-use Rattle.textarea_view.specs.Prelude.{AreLinesOf, AreLinesWith, block_change, frame_change, inside_change, inside_with, drawn_lines, placeholder_change, rows_change, style_change, row_area}
-use Rattle.textarea_view.specs.Prelude.{FrameState, shows_placeholder, CursorCellRender, Look, block_cell, RowArea, FillsArea, lines_change, rows_above_end, in_placeholder_style, placeholder_lines}
-use Rattle.textarea_view.specs.Prelude.{cursor_cell, SceneState, BlockView, Changes, KeepsOutside, area_of, CellView, contains, LineView, TextView, Buffer, Rect, Style, ViewportState}
+use Rattle.textarea_view.specs.Prelude.{AreLinesOf, AreLinesWith, inside_change, inside_with, drawn_lines, placeholder_change, style_change, row_area}
+use Rattle.textarea_view.specs.Prelude.{FrameState, shows_placeholder, CursorCellRender, Look, block_cell, RowArea, lines_change, rows_above_end, in_placeholder_style, placeholder_lines}
+use Rattle.textarea_view.specs.Prelude.{cursor_cell, BlockView, Changes, KeepsOutside, area_of, CellView, contains, LineView, TextView, Buffer, Rect, Style, ViewportState}
 use Rattle.textarea_view.proofs.Drawing.{lines_inside}
-use Rattle.textarea_screen.proofs.ChangeLemmas.{Changes-then, KeepsOutside-from_changes}
+use Rattle.textarea_screen.proofs.ChangeLemmas.{KeepsOutside-from_changes}
 
 -- a fact is also true after an error
 pub also_on_err : {T E Fact : Type 0} (r : Result T E) → Fact → OnErr r Fact
@@ -45,24 +45,6 @@ pub styled_inside : (inner : Rect) (style : Style) (old now : Buffer) → Change
 styled_inside inner style old now change =
     KeepsOutside-from_changes (contains inner) change (λ x y cell outside. style_outside inner style x y cell outside)
 
--- ---- both
-
--- a cell outside of the area is outside of the inner area
-outside_of : (area inner : Rect) → ((x y : ℕ) → IsTrue (contains inner x y) → IsTrue (contains area x y)) → (x y : ℕ) → contains area x y ≡ false → contains inner x y ≡ false
-outside_of area inner within x y outside = by (contains inner x y) refl
-  where
-    by : (b : Bool) → contains inner x y ≡ b → b ≡ false
-    by false e = refl
-    by true e = cc (within x y e, outside)
-
-pub framed : (frame : FrameState) (viewport : ViewportState) (area inner : Rect) (old now new : Buffer) → Changes old now (block_change frame.surround.block area) → IsFilledBy frame viewport inner now new →
-    (lines : List LineView) × AreLinesOf frame viewport inner (area_of old) lines × Changes old new (frame_change frame viewport area inner lines)
-framed frame viewport area inner old now new around inside = (
-  inside.0,
-  subst (λ (a : Rect). AreLinesOf frame viewport inner a inside.0) around.area inside.1,
-  Changes-then (frame_change frame viewport area inner inside.0) around inside.2 (λ x y cell. refl),
-)
-
 -- ---- with and without an error
 
 pub either : {T E A B C : Type 0} (r : Result T E) → OnOk r A → OnErr r B → (A → C) → (B → C) → C
@@ -93,18 +75,3 @@ placeholder_drawn look placeholder viewport inner old new rows text cell of_rows
     subst (λ (r : RowArea). PlaceholderDrawn old new r placeholder (cursor_cell look)) of_rows
     (subst (λ (t : TextView). PlaceholderDrawn old new rows t (cursor_cell look)) of_text
     (subst (λ (b : CursorCellRender). PlaceholderDrawn old new rows text b) of_cell change))
-
-abbrev RowsDrawn : SceneState → ℕ → Buffer → Buffer → RowArea → Type 0
-RowsDrawn scene top now new rows = (lines : List LineView) × FillsArea scene top rows.area (area_of now) lines × Changes now new (lines_change rows rows.area.y lines)
-
-pub rows_drawn : (scene : SceneState) (viewport : ViewportState) (inner : Rect) (old now new : Buffer) (rows : RowArea) (top : ℕ × ℕ) → rows ≡ row_area scene.look inner viewport.column → top ≡ (viewport.row, viewport.column) →
-    Changes old now (style_change inner scene.look.style) → RowsDrawn scene top.0 now new rows →
-    (lines : List LineView) × FillsArea scene viewport.row inner (area_of old) lines × Changes old new (rows_change scene.look viewport inner lines)
-rows_drawn scene viewport inner old now new rows top of_rows of_top styling drawn =
-    let there : RowsDrawn scene viewport.row now new (row_area scene.look inner viewport.column) =
-    subst (λ (t : ℕ × ℕ). RowsDrawn scene t.0 now new (row_area scene.look inner viewport.column)) of_top
-    (subst (λ (r : RowArea). RowsDrawn scene top.0 now new r) of_rows drawn) in (
-      there.0,
-      subst (λ (a : Rect). FillsArea scene viewport.row inner a there.0) styling.area there.1,
-      Changes-then (rows_change scene.look viewport inner there.0) styling there.2 (λ x y cell. refl),
-    )

@@ -23,7 +23,7 @@ use Rattle.textarea_screen.specs.Text.ContentView.{BorrowedBytes, OwnedBytes}
 use Rattle.textarea_screen.specs.declared.screen.alignment.Alignment.TheVariants.{Left}
 use Rattle.textarea_highlight.specs.Highlights.{Highlights, end_cell, end_style}
 use Rattle.textarea_highlight.specs.Plain.{ends_conjunct, is_plain, is_single}
-use Rattle.textarea_highlight.specs.Row.{ShowsRow, part_end, part_numbers}
+use Rattle.textarea_highlight.specs.Row.{part_end, part_numbers}
 use Rattle.textarea_highlight.specs.Seen.{AreInTwo, IsSpanSplit, IsText, ShowsBetween, line_of_segments, span_columns, spans_columns}
 use Rattle.textarea_highlight.specs.Texts.{text_bytes_of}
 use Rattle.textarea_highlight.specs.declared.highlight.highlighter.RowPart.{RowPart}
@@ -261,7 +261,3 @@ drawn_part h rows right count part line left at_left at_right numbers s is = rec
       row_cell-part rows y (line_of_segments h s.segments) line at_left (visible h rows right count part line y at_right numbers s) column row cell
       ∙ ap (λ n. row_cell (record rows { left = n }) y line column row cell) (sym (is ∙ part_left h rows right count part line y at_right numbers s (part.from == 0)));
 }
-
--- the whole row is drawn
-pub drawn_whole : (h : Highlights) (rows : RowArea) (line : LineView) → ShowsRow h line → IsDrawnAs h rows rows.left line
-drawn_whole h rows line shows = record { whole = line; shows = shows; same = λ y column row cell. refl }

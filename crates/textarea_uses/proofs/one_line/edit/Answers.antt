@@ -14,4 +14,5 @@ returns-in-DeleteChar-clause-one_line c =
 
 pub returns-in-DeleteNextChar-clause-one_line : goal.returns-in-DeleteNextChar-clause-one_line
 returns-in-DeleteNextChar-clause-one_line c =
-    c.symbols_stay_or_are_inserted.ensures is_in_line c.args.area.now c.delete_next_char.new.self action.DeleteNextChar c.is_sound.ensures (either_end c.delete_next_char.result c.delete_next_char.ensures.ok c.delete_next_char.ensures.err) tt
+    c.symbols_stay_or_are_inserted.ensures is_in_line c.args.area.now c.delete_next_char.new.self action.DeleteNextChar c.is_sound.ensures
+    (either_end c.delete_next_char.result c.delete_next_char.ensures.ok c.delete_next_char.ensures.err) tt

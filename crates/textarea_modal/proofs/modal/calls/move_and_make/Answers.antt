@@ -1,9 +1,9 @@
 use Rattle.std.proofs.Common.{◌≡◌, ◌∷◌, [], map, refl}
 use Rattle.tui_textarea.specs.CallResults.{Done}
-use Rattle.std.proofs.lemmas.Result.{on_ok_weaker}
+use Rattle.std.proofs.lemmas.Result.{on_err_weaker, on_ok_weaker}
 use Rattle.textarea_calls.specs.declared.call.Call.TheVariants.{Move}
 use Rattle.textarea_modal.specs.Calls.{key_call}
-use Rattle.textarea_modal.proofs.Runs.{made_after, moved, on_err_weaker, one_ran_out_after}
+use Rattle.textarea_modal.proofs.Runs.{made_after, moved, one_ran_out_after}
 use Rattle.textarea_modal.proofs.modal.calls.move_and_make.Goals as goal
 
 text_stays : (c : goal.After-make_all) → c.move_cursor.new.self.document.text ≡ c.args.area.now.document.text
