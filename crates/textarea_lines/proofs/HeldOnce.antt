@@ -120,7 +120,8 @@ pub layout_once :
 layout_once settings items now borrowed_lines size count start after map new before changed origins h same start_is origins_are k =
     let settings_are : settings ≡ before.layout.settings = ap (λ (l : TextAndLayout). l.layout.settings) h.is in
     let old : ticks_of map.rows ≡ before.layout.ticks = ap (λ (l : TextAndLayout). l.layout.ticks) h.is in
-    let count_is : after ≡ before.layout.count + touched_count (unwrap_or changed.layout.origins []) = k.counted ∙ ap (λ (n : ℕ). n + touched_count origins) start_is ∙ ap (λ (p : Origins). before.layout.count + touched_count p) origins_are in
+    let count_is : after ≡ before.layout.count + touched_count (unwrap_or changed.layout.origins []) =
+    k.counted ∙ ap (λ (n : ℕ). n + touched_count origins) start_is ∙ ap (λ (p : Origins). before.layout.count + touched_count p) origins_are in
     let ticks_are : ticks_of new.rows ≡ ticks_at_once before.layout.ticks before.layout.count (unwrap_or changed.layout.origins []) =
     k.ticks ∙ ap (λ (t : List ℕ). ticks_at_once t start origins) old ∙ ap (λ (n : ℕ). ticks_at_once before.layout.ticks n origins) start_is ∙ ap (ticks_at_once before.layout.ticks before.layout.count) origins_are in
     let layout : layout_of settings after new.rows None ≡ touched_wrapped before.layout (unwrap_or changed.layout.origins []) = cc in

@@ -1,5 +1,6 @@
 -- The rows of lines that are wrapped once, by where they come from.
-use Rattle.std.proofs.Common.{◌≡◌, ℕ, zero, suc, ◌+◌, ◌-◌, ◌<◌, ◌≤◌, List, [], ◌∷◌, ◌++◌, Option, Some, None, length, map, take, drop, get_or, max, chars, String, string_bytes, Result, Ok, Err, encode_utf8_all, ap, ap₂, refl, sym, subst, ◌∙◌, arith}
+use Rattle.std.proofs.Common.{◌≡◌, ℕ, zero, suc, ◌+◌, ◌-◌, ◌<◌, ◌≤◌, List, [], ◌∷◌, ◌++◌, Option, Some, None, length, map, take, drop, get_or, max, chars, String, string_bytes, Result, Ok, Err, encode_utf8_all}
+use Rattle.std.proofs.Common.{ap, ap₂, refl, sym, subst, ◌∙◌, arith}
 use Rattle.std.specs.List.{AllZip, slice_get}
 use Rattle.std.proofs.lemmas.List.{length-map, map-append, take_all, take_more}
 use Rattle.std.specs.Result.{IfOk, OnOk}

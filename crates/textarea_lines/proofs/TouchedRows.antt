@@ -5,7 +5,7 @@ use Rattle.textarea_text.specs.Splice.{Splice, applied, place_after, place_befor
 use Rattle.textarea_text.specs.Text.{Symbol, lines}
 use Rattle.textarea_text.specs.Touched.{breaks_of, new_line_count, replaced_line_count}
 use Rattle.textarea_text.proofs.Touching.{end_row}
-use Rattle.textarea_lines.specs.TextLayout.{Layout, Origins, TextAndLayout, after_lines_spliced, all_wrapped, applied_to, lines_spliced, origins_spliced, some_wrapped, with_origins}
+use Rattle.textarea_lines.specs.TextLayout.{Layout, Origins, TextAndLayout, after_lines_spliced, all_wrapped_again, applied_to, lines_spliced, origins_spliced, some_wrapped, with_origins}
 use Rattle.textarea_lines.specs.Wrappings.{is_same_wrapping, wrapping_for}
 
 -- ---- rows
@@ -31,7 +31,7 @@ rows_before_splice splice = before_if splice.inserts splice.place splice.symbols
 -- ---- what doesn't depend on where lines come from
 
 abbrev layout_if : Bool → Layout → ℕ → ℕ → ℕ → ℕ → Layout
-layout_if b layout row gone come after = cond b (some_wrapped layout row gone come) (record (all_wrapped layout.settings layout.count after) { origins = layout.origins })
+layout_if b layout row gone come after = cond b (some_wrapped layout row gone come) (all_wrapped_again layout layout.settings after)
 
 other_origins : (b : Bool) (layout : Layout) (row gone come after : ℕ) (o p : Option Origins) →
     record (layout_if b (record layout { origins = o }) row gone come after) { origins = p } ≡ record (layout_if b layout row gone come after) { origins = p }

@@ -9,7 +9,7 @@ use Rattle.textarea_screen_map.specs.LineRows.{AreRowsOf}
 use Rattle.textarea_screen_map.specs.declared.layout.Wrapping.{Wrapping}
 use Rattle.textarea_lines.specs.declared.settings.LayoutSettings.{LayoutSettings}
 use Rattle.textarea_lines.specs.LineWraps.{WrapsForSplices, WrapsAllLines, WrapsNoLine, WrapsTouchedLines, WrapsForSettings, WrapsForSplice, WrapsForWidth, map_width, width_for}
-use Rattle.textarea_lines.specs.TextLayout.{TextAndLayout, Layout, Origins, all_wrapped, applied_to, at_width, origins_spliced, rewrapped, with_settings, some_wrapped, keeps_wrapping, wrapping_of}
+use Rattle.textarea_lines.specs.TextLayout.{TextAndLayout, Layout, Origins, all_wrapped, all_wrapped_again, applied_to, at_width, origins_spliced, rewrapped, with_settings, some_wrapped, keeps_wrapping, wrapping_of}
 use Rattle.textarea_lines.specs.Wrappings.{is_same_wrapping, wrapping_for}
 use Rattle.textarea_lines.proofs.MapWidths.{other_test, same_test, same_wrapping}
 use Rattle.textarea_lines.proofs.PutSettings.{settings_put, text_stays}
@@ -21,7 +21,7 @@ use Rattle.textarea_lines.proofs.Splicing.{count_spliced, splices_lines}
 -- the layout after a splice, by whether lines are wrapped as before
 abbrev layout_if : Bool → TextAndLayout → Splice → ℕ → Layout
 layout_if b text_layout splice after =
-    record (cond b (some_wrapped text_layout.layout splice.place.0 (replaced_line_count splice) (new_line_count splice)) (record (all_wrapped text_layout.layout.settings text_layout.layout.count after) { origins = text_layout.layout.origins })) {
+    record (cond b (some_wrapped text_layout.layout splice.place.0 (replaced_line_count splice) (new_line_count splice)) (all_wrapped_again text_layout.layout text_layout.layout.settings after)) {
       origins = option_map (λ (origins : Origins). origins_spliced origins splice) text_layout.layout.origins;
     }
 

@@ -17,7 +17,8 @@ pub use Rattle.textarea_lines.specs.AtOnce.{IsChangedFrom, WrapsAtOnce, applied_
 pub use Rattle.textarea_lines.specs.LineWraps.{WrapsAllLines, WrapsForSettings, WrapsForSplice, WrapsForSplices, WrapsForWidth}
 pub use Rattle.textarea_lines.specs.Replacing.{AreReadyRows, CanReplace}
 pub use Rattle.textarea_lines.specs.Stored.{size_after}
-pub use Rattle.textarea_lines.specs.TextLayout.{Origins, TextAndLayout, applied_to, at_width, count_after, is_wrapped_at, keeps_wrapping, layout_from_scratch, lines_after, lines_spliced, origins_of, origins_spliced, with_origins, with_replacement, with_settings, wrapping_at, wrapping_of}
+pub use Rattle.textarea_lines.specs.TextLayout.{Origins, lines_spliced, origins_of, origins_spliced, with_origins}
+pub use Rattle.textarea_lines.specs.TextLayout.{TextAndLayout, applied_to, at_width, count_after, is_wrapped_at, keeps_wrapping, layout_from_scratch, lines_after, with_replacement, with_settings, wrapping_at, wrapping_of}
 pub use Rattle.textarea_lines.specs.TextRows.{CanStayWhole, HasLayout, HasWholeLine, IsFoundAbove, IsFoundBelow, IsRowCountAt, OfRows}
 pub use Rattle.textarea_lines.specs.View.{IsPrepared, IsRewrappedIfOther, IsViewOf, IsWholeWrap}
 pub use Rattle.textarea_lines.specs.Wrappings.{is_wrapped}

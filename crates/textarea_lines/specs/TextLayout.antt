@@ -46,6 +46,10 @@ with_origins text_layout origins = record { text = text_layout.text; layout = re
 abbrev pub all_wrapped : LayoutSettings → ℕ → ℕ → Layout
 all_wrapped settings count line_count = record { settings = settings; count = count + line_count; ticks = ticks_after count line_count; origins = None }
 
+-- all are wrapped again, by these settings; where they come from doesn't change
+abbrev pub all_wrapped_again : Layout → LayoutSettings → ℕ → Layout
+all_wrapped_again layout settings line_count = record (all_wrapped settings layout.count line_count) { origins = layout.origins }
+
 -- `coming` lines are wrapped and replace those from the row on; all others keep their rows
 abbrev pub some_wrapped : Layout → ℕ → ℕ → ℕ → Layout
 some_wrapped layout row removed_lines coming = record {
@@ -60,7 +64,8 @@ some_wrapped layout row removed_lines coming = record {
 abbrev pub after_replacement : Layout → ℕ → ℕ → ℕ → ℕ → Layout
 after_replacement layout line_count row removed_lines coming =
     let after : ℕ = line_count - removed_lines + coming in
-    if is_same_wrapping (wrapping_for layout.settings after) (wrapping_for layout.settings line_count) then some_wrapped layout row removed_lines coming else (record (all_wrapped layout.settings layout.count after) { origins = layout.origins })
+    if is_same_wrapping (wrapping_for layout.settings after) (wrapping_for layout.settings line_count) then some_wrapped layout row removed_lines coming
+    else all_wrapped_again layout layout.settings after
 
 -- where lines come from, after some are replaced by `coming` lines
 abbrev pub origins_replaced : Origins → ℕ → ℕ → ℕ → Origins
@@ -136,10 +141,7 @@ at_width text_layout inner_width = record {
 
 -- all lines are wrapped again, by these settings
 abbrev pub rewrapped : TextAndLayout → LayoutSettings → TextAndLayout
-rewrapped text_layout settings = record {
-  text = text_layout.text;
-  layout = record (all_wrapped settings text_layout.layout.count (length (lines text_layout.text))) { origins = text_layout.layout.origins };
-}
+rewrapped text_layout settings = record { text = text_layout.text; layout = all_wrapped_again text_layout.layout settings (length (lines text_layout.text)) }
 
 -- the text with other settings; all lines are wrapped again if these wrap them in another way
 abbrev pub with_settings : TextAndLayout → LayoutSettings → TextAndLayout

@@ -42,7 +42,8 @@ invariant_of-self-2 c =
 pub returns-clause-ok : goal.returns-clause-ok
 returns-clause-ok c =
     rw (← c.self.view_is)
-    (layout_replaced _ _ _ _ _ _ _ _ _ _ _ (steps (goal.at.returns-clause-ok c).After-replace) c.args.replacement.lines.ok.0 (rw (c.replace.ensures.rows, ← c.in_ok-prepared.ensures.same) (c.in_ok-prepared.ensures.ready.layout (origins_of c.self.inside.origins))))
+    (layout_replaced _ _ _ _ _ _ _ _ _ _ _ (steps (goal.at.returns-clause-ok c).After-replace) c.args.replacement.lines.ok.0
+    (rw (c.replace.ensures.rows, ← c.in_ok-prepared.ensures.same) (c.in_ok-prepared.ensures.ready.layout (origins_of c.self.inside.origins))))
 
 pub replace_in-requires-clause-within : goal.replace_in-requires-clause-within
 replace_in-requires-clause-within c =

@@ -7,7 +7,8 @@ use Rattle.textarea_lines.proofs.text_layout.TextLayout.rows_at_width.Goals.{Aft
 
 steps :
     (c : After-wrapping)
-    → Measuring (origins_of c.self.inside.origins) c.self.inside.settings c.self.inside.lines.items c.as_slice-lines.result.now c.self.inside.size c.self.inside.count c.args.inner_width c.self.inside.map c.args.self.now c.wrapping_at-wrapping.result c.wrapping.result
+    → Measuring (origins_of c.self.inside.origins) c.self.inside.settings c.self.inside.lines.items c.as_slice-lines.result.now c.self.inside.size c.self.inside.count
+    c.args.inner_width c.self.inside.map c.args.self.now c.wrapping_at-wrapping.result c.wrapping.result
 steps c = record {
   contents = c.self.invariant.contents;
   is = c.self.view_is;

@@ -6,7 +6,8 @@ use Rattle.textarea_lines.proofs.HeldOnce.{Changing, holds_once, layout_once, lo
 use Rattle.textarea_lines.proofs.text_layout.TextLayout.with_old_rows.Goals as goal
 use Rattle.textarea_lines.proofs.text_layout.TextLayout.with_old_rows.Goals.{After-slice_of-origins}
 
-steps : (c : After-slice_of-origins) → Changing (origins_of c.self.inside.origins) c.self.inside.settings c.self.inside.lines.items c.changed.inside.lines.items c.self.inside.size c.self.inside.count c.self.inside.map c.args.self.now c.args.changed
+steps : (c : After-slice_of-origins) → Changing (origins_of c.self.inside.origins) c.self.inside.settings c.self.inside.lines.items c.changed.inside.lines.items
+    c.self.inside.size c.self.inside.count c.self.inside.map c.args.self.now c.args.changed
 steps c = record {
   holds = c.self.invariant.contents;
   is = c.self.view_is;
@@ -21,11 +22,13 @@ origins_are c = c.slice_of-origins.ensures ∙ ap (λ (l : TextAndLayout). unwra
 
 pub map_at_once-requires-clause-long : goal.map_at_once-requires-clause-long
 map_at_once-requires-clause-long c =
-    long_once _ _ _ c.as_slice-lines.result.now _ _ _ _ _ c.slice_of-origins.result.now (steps (goal.at.map_at_once-requires-clause-long c).After-slice_of-origins) c.as_slice-lines.ensures.value (origins_are (goal.at.map_at_once-requires-clause-long c).After-slice_of-origins)
+    let at = (goal.at.map_at_once-requires-clause-long c).After-slice_of-origins in
+    long_once _ _ _ c.as_slice-lines.result.now _ _ _ _ _ c.slice_of-origins.result.now (steps at) c.as_slice-lines.ensures.value (origins_are at)
 
 pub map_at_once-requires-clause-rows : goal.map_at_once-requires-clause-rows
 map_at_once-requires-clause-rows c =
-    rows_once _ _ _ c.as_slice-lines.result.now _ _ _ _ _ c.slice_of-origins.result.now (steps (goal.at.map_at_once-requires-clause-rows c).After-slice_of-origins) c.as_slice-lines.ensures.value (origins_are (goal.at.map_at_once-requires-clause-rows c).After-slice_of-origins)
+    let at = (goal.at.map_at_once-requires-clause-rows c).After-slice_of-origins in
+    rows_once _ _ _ c.as_slice-lines.result.now _ _ _ _ _ c.slice_of-origins.result.now (steps at) c.as_slice-lines.ensures.value (origins_are at)
 
 pub invariant_of-result : goal.invariant_of-result
 invariant_of-result c = record {
@@ -39,4 +42,5 @@ invariant_of-result c = record {
 
 pub returns : goal.returns
 returns c =
-    layout_once _ _ _ c.as_slice-lines.result.now _ _ c.args.count c.map_at_once.new.count _ c.in_ok-map.map _ _ c.slice_of-origins.result.now (steps (goal.at.returns c).After-slice_of-origins) c.requires.same c.requires.count (origins_are (goal.at.returns c).After-slice_of-origins) c.in_ok-map.ensures.rows
+    let at = (goal.at.returns c).After-slice_of-origins in
+    layout_once _ _ _ c.as_slice-lines.result.now _ _ c.args.count c.map_at_once.new.count _ c.in_ok-map.map _ _ c.slice_of-origins.result.now (steps at) c.requires.same c.requires.count (origins_are at) c.in_ok-map.ensures.rows
