@@ -10,7 +10,7 @@ use Rattle.textarea_editor.specs.Draft.{FailsIn, FailsInSome, Makes, MakesSome}
 use Rattle.textarea_editor.specs.EventCalls.{IsClick, IsWholeClick, ends_calls, is_selecting, selection_calls, to_calls}
 use Rattle.textarea_editor.specs.Extents.{IsExtent}
 use Rattle.textarea_editor.specs.declared.draft.Draft.{Draft}
-use Rattle.textarea_editor.specs.declared.click.Extent.{Extent}
+use Rattle.textarea_keys.specs.declared.click.Extent.{Extent}
 use Rattle.textarea_text.specs.Place.{IsPlace, Place}
 use Rattle.textarea_text.specs.Text.{characters_of, lines, lines_of}
 use Rattle.tui_textarea.specs.Drawing.{widget_of}

@@ -4,7 +4,6 @@ mod EventRuns
 mod SaveRuns
 mod ProgramRuns
 mod Texts
-mod HelpLines
 mod Times
 mod Clicks
 mod Runs

@@ -5,8 +5,8 @@ use Rattle.textarea_calls.specs.declared.call.Call.{Call}
 use Rattle.textarea_editor.specs.Controls.{past_match, replace_asked, replace_focus, with_focus}
 use Rattle.textarea_editor.specs.EventCalls.{find_calls, skip_calls}
 use Rattle.textarea_editor.specs.declared.controls.Controls.{Controls}
-use Rattle.textarea_editor.specs.declared.focus.Focus.{Focus}
-use Rattle.textarea_editor.specs.declared.focus.Focus.TheVariants as focus
+use Rattle.textarea_keys.specs.declared.focus.Focus.{Focus}
+use Rattle.textarea_keys.specs.declared.focus.Focus.TheVariants as focus
 
 skip_by : Bool → List Call
 skip_by is_last = if is_last then [] else find_calls true

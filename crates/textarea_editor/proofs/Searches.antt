@@ -17,10 +17,10 @@ use Rattle.textarea_editor.specs.Draft.{has_found}
 use Rattle.textarea_editor.specs.Patterns.{case_mark, pattern_call, pattern_of, search_call, text_call, worded}
 use Rattle.textarea_editor.specs.SearchMessages.{has_match, searches}
 use Rattle.textarea_editor.specs.declared.draft.Draft.{Draft}
-use Rattle.textarea_editor.specs.declared.search.SearchOptions.{SearchOptions}
 use Rattle.textarea_modal.specs.Runs.{AllMade, OneRunsOut}
 use Rattle.textarea_modal.proofs.Runs.{draws_nothing_of, made_more, none_made, ran_out_here}
 use Rattle.textarea_calls.specs.declared.answer.Answer.{Answer}
+use Rattle.textarea_keys.specs.declared.search.SearchOptions.{SearchOptions}
 use Rattle.textarea_text.specs.Place.{Place}
 use Rattle.tui_textarea.specs.CallResults.{CallResult, call_result}
 use Rattle.tui_textarea.specs.Outcomes.{IsAfterCall, IsResultOf, RanOutOfMemory}

@@ -12,10 +12,10 @@ use Rattle.textarea_editor.specs.Draft.{Copy, FailsIn, FailsInAsked, FailsInSome
 use Rattle.textarea_editor.specs.declared.draft.Draft.{Draft}
 use Rattle.textarea_editor.specs.EventCalls.{IsEvent, IsFit, IsInput, IsPaste}
 use Rattle.textarea_editor.specs.Steps.{IsTimed}
-use Rattle.textarea_editor.specs.TypedInput.{typed_input}
 use Rattle.textarea_editor.specs.declared.editor.Editor.{Editor}
-use Rattle.textarea_editor.specs.declared.focus.Focus.{Focus}
-use Rattle.textarea_editor.specs.declared.focus.Focus.TheVariants as focus
+use Rattle.textarea_keys.specs.TypedInput.{typed_input}
+use Rattle.textarea_keys.specs.declared.focus.Focus.{Focus}
+use Rattle.textarea_keys.specs.declared.focus.Focus.TheVariants as focus
 use Rattle.textarea_modal.proofs.Runs.{draws_nothing_of, made_more, none_made}
 use Rattle.textarea_modal.specs.Runs.{AllMade}
 use Rattle.textarea_terminal.specs.declared.input.event.Event.{Event}

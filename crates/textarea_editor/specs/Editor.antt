@@ -5,11 +5,11 @@ use Rattle.std.specs.declared.alloc.Global.{Global}
 use Rattle.textarea_editor.specs.Effects.{optional_bytes}
 use Rattle.textarea_editor.specs.declared.controls.Controls.{Controls}
 use Rattle.textarea_editor.specs.declared.editor.Editor.{Editor}
-use Rattle.textarea_editor.specs.declared.focus.Focus.TheVariants as focus
-use Rattle.textarea_editor.specs.declared.focus.Question.TheVariants.{SaveFirst}
 use Rattle.textarea_editor.specs.declared.message.Message.{Message}
 use Rattle.textarea_files.specs.declared.file_text.LineEnd.TheVariants.{LineFeed}
 use Rattle.textarea_files.specs.declared.file_text.LineEnds.{LineEnds}
+use Rattle.textarea_keys.specs.declared.focus.Focus.TheVariants as focus
+use Rattle.textarea_keys.specs.declared.focus.Question.TheVariants.{SaveFirst}
 use Rattle.textarea_screen.specs.declared.screen.rect.Rect.{Rect}
 use Rattle.tui_textarea.specs.State.{State}
 

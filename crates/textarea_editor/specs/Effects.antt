@@ -6,12 +6,12 @@ use Rattle.textarea_editor.specs.declared.effect.Effect.{Effect}
 use Rattle.textarea_editor.specs.declared.effect.Effect.TheVariants as does
 use Rattle.textarea_editor.specs.declared.effect.Effect.TheVariants.{Copy, Nothing, Quit, Save}
 use Rattle.textarea_editor.specs.declared.effect.SaveRequest.{SaveRequest}
-use Rattle.textarea_editor.specs.declared.focus.Question.{Question}
-use Rattle.textarea_editor.specs.declared.focus.Question.TheVariants.{Discard, Overwrite, Recover, SaveFirst}
-use Rattle.textarea_editor.specs.declared.focus.KeyReply.{KeyReply}
-use Rattle.textarea_editor.specs.declared.focus.KeyReply.TheVariants as reply
 use Rattle.textarea_files.specs.FileText.{file_bytes}
 use Rattle.textarea_files.specs.declared.file_text.LineEnds.{LineEnds}
+use Rattle.textarea_keys.specs.declared.focus.KeyReply.{KeyReply}
+use Rattle.textarea_keys.specs.declared.focus.KeyReply.TheVariants as reply
+use Rattle.textarea_keys.specs.declared.focus.Question.{Question}
+use Rattle.textarea_keys.specs.declared.focus.Question.TheVariants.{Discard, Overwrite, Recover, SaveFirst}
 use Rattle.textarea_text.specs.Fragment.{fragment_text}
 use Rattle.textarea_text.specs.Text.{lines, lines_of}
 use Rattle.tui_textarea.specs.State.{State}

@@ -1,7 +1,7 @@
 -- The calls on the text area that each event makes, as a table: by what the next key is for, the
 -- key, and the command that it is bound to.
-use Rattle.std.specs.Prelude.{◌≡◌, ◌⊎◌, ◌<◌, ◌≤◌, ℕ, ◌-◌, ◌==◌, ◌&&◌, ◌||◌, nat_lt, min, not, Bool, true, false}
-use Rattle.std.specs.Prelude.{List, [], ◌∷◌, ◌++◌, Option, Some, None, is_some, if◌then◌else◌, slice_index_or, String, string_bytes, All, Contains, codes, pos, negsuc}
+use Rattle.std.specs.Prelude.{◌≡◌, ◌⊎◌, ◌<◌, ◌≤◌, ℕ, ◌-◌, ◌&&◌, nat_lt, min, not, Bool, true, false}
+use Rattle.std.specs.Prelude.{List, [], ◌∷◌, ◌++◌, Option, Some, None, is_some, if◌then◌else◌, slice_index_or, String, string_bytes, codes, pos, negsuc}
 use Rattle.std.specs.Str.{chars}
 use Rattle.std.specs.declared.alloc.Global.{Global}
 use Rattle.std.specs.declared.time.Duration.{Duration}
@@ -13,37 +13,16 @@ use Rattle.textarea_data.specs.declared.input.Input.{Input}
 use Rattle.textarea_data.specs.declared.scroll.Scrolling.TheVariants as scrolling
 use Rattle.textarea_data.specs.declared.measure.TextAreaMeasure.{TextAreaMeasure}
 use Rattle.textarea_data.specs.declared.input.Key.{Key}
-use Rattle.textarea_data.specs.declared.input.Key.TheVariants.{Char, End, Esc, F, Home, MouseScrollDown, MouseScrollUp, Tab}
+use Rattle.textarea_data.specs.declared.input.Key.TheVariants.{MouseScrollDown, MouseScrollUp}
 use Rattle.textarea_document.specs.DocumentState.{DocumentState}
-use Rattle.textarea_editor.specs.Clicks.{click_below, click_by}
 use Rattle.textarea_editor.specs.Effects.{optional_bytes}
 use Rattle.textarea_editor.specs.Extents.{IsExtent}
 use Rattle.textarea_editor.specs.Indents.{keeps_indent, line_break}
-use Rattle.textarea_editor.specs.KeyTable.{key_table}
 use Rattle.textarea_editor.specs.LineNumber.{IsLineNumber, row_of_line}
 use Rattle.textarea_editor.specs.Pages.{input_calls}
-use Rattle.textarea_editor.specs.Patterns.{borrowed, first_line, search_call, toggled}
-use Rattle.textarea_editor.specs.PromptKeys.{prompt_key}
-use Rattle.textarea_editor.specs.ReplaceKeys.{replace_key}
-use Rattle.textarea_editor.specs.TypedInput.{typed_input}
-use Rattle.textarea_editor.specs.declared.click.Click.{Click}
-use Rattle.textarea_editor.specs.declared.click.Click.TheVariants as click
-use Rattle.textarea_editor.specs.declared.click.Press.{Press}
+use Rattle.textarea_editor.specs.Patterns.{borrowed, first_line, search_call}
 use Rattle.textarea_editor.specs.declared.controls.Controls.{Controls}
 use Rattle.textarea_editor.specs.declared.editor.Editor.{Editor}
-use Rattle.textarea_editor.specs.declared.click.Extent.{Extent}
-use Rattle.textarea_editor.specs.declared.focus.Asked.{Asked}
-use Rattle.textarea_editor.specs.declared.focus.Asked.TheVariants as asks
-use Rattle.textarea_editor.specs.declared.focus.Focus.{Focus}
-use Rattle.textarea_editor.specs.declared.focus.Focus.TheVariants as focus
-use Rattle.textarea_editor.specs.declared.focus.PromptKey.{PromptKey}
-use Rattle.textarea_editor.specs.declared.focus.PromptKey.TheVariants as prompt
-use Rattle.textarea_editor.specs.declared.keys.Binding.{Binding}
-use Rattle.textarea_editor.specs.declared.keys.KeyCommand.{KeyCommand}
-use Rattle.textarea_editor.specs.declared.keys.KeyCommand.TheVariants as command
-use Rattle.textarea_editor.specs.declared.replace_keys.ReplaceKey.{ReplaceKey}
-use Rattle.textarea_editor.specs.declared.replace_keys.ReplaceKey.TheVariants as replace
-use Rattle.textarea_editor.specs.declared.search.SearchOptions.{SearchOptions}
 use Rattle.textarea_modal.specs.Table.{step}
 use Rattle.textarea_modal.specs.declared.mode.Mode.{Mode}
 use Rattle.textarea_screen.specs.Style.{empty_style}
@@ -62,6 +41,26 @@ use Rattle.tui_textarea.specs.Drawing.{widget_of}
 use Rattle.tui_textarea.specs.DrawnFrame.{WidgetState}
 use Rattle.tui_textarea.specs.Edits.{inserts_text, str_inserted}
 use Rattle.textarea_data.specs.declared.range.AtomicCursorBias.TheVariants.{Forward as BiasForward}
+use Rattle.textarea_keys.specs.Clicks.{click_below, click_by}
+use Rattle.textarea_keys.specs.PromptKeys.{prompt_key}
+use Rattle.textarea_keys.specs.ReplaceKeys.{replace_key}
+use Rattle.textarea_keys.specs.SearchOptions.{toggled}
+use Rattle.textarea_keys.specs.TypedInput.{typed_input}
+use Rattle.textarea_keys.specs.declared.click.Click.{Click}
+use Rattle.textarea_keys.specs.declared.click.Click.TheVariants as click
+use Rattle.textarea_keys.specs.declared.click.Extent.{Extent}
+use Rattle.textarea_keys.specs.declared.click.Press.{Press}
+use Rattle.textarea_keys.specs.declared.focus.Asked.{Asked}
+use Rattle.textarea_keys.specs.declared.focus.Asked.TheVariants as asks
+use Rattle.textarea_keys.specs.declared.focus.Focus.{Focus}
+use Rattle.textarea_keys.specs.declared.focus.Focus.TheVariants as focus
+use Rattle.textarea_keys.specs.declared.focus.PromptKey.{PromptKey}
+use Rattle.textarea_keys.specs.declared.focus.PromptKey.TheVariants as prompt
+use Rattle.textarea_keys.specs.declared.keys.KeyCommand.{KeyCommand}
+use Rattle.textarea_keys.specs.declared.keys.KeyCommand.TheVariants as command
+use Rattle.textarea_keys.specs.declared.replace_keys.ReplaceKey.{ReplaceKey}
+use Rattle.textarea_keys.specs.declared.replace_keys.ReplaceKey.TheVariants as replace
+use Rattle.textarea_keys.specs.declared.search.SearchOptions.{SearchOptions}
 use Rattle.tui_textarea.specs.Units.{settled}
 use Rattle.tui_textarea.specs.Hit.{IsHitTest}
 use Rattle.tui_textarea.specs.Guards.{admitted_over_selection, is_editable, unless_read_only}
@@ -70,31 +69,6 @@ use Rattle.tui_textarea.specs.Measure.{IsMeasured, reads_rows}
 use Rattle.tui_textarea.specs.State.{State}
 
 -- ---- commands
-
--- whether the bound key is the pressed one; only characters, function keys, Esc, Home, End and Tab are
--- bound
-abbrev pub is_bound : Key → Key → Bool
-is_bound (Char c) (Char d) = c == d
-is_bound (F m) (F n) = m == n
-is_bound Esc Esc = true
-is_bound Home Home = true
-is_bound End End = true
-is_bound Tab Tab = true
-is_bound bound pressed = false
-
-abbrev pub is_same : Bool → Bool → Bool
-is_same true held = held
-is_same false held = not held
-
--- whether the row of the table binds the input; some rows don't with modal keys
-abbrev pub binds : Binding → Input → Bool → Bool
-binds binding input is_modal =
-    is_bound binding.input.key input.key && (is_same binding.input.ctrl input.ctrl && (is_same binding.input.alt input.alt && (is_same binding.input.shift input.shift && (binding.with_modal || not is_modal))))
-
--- the command of a row of the table that binds the input, if there is one
-abbrev pub IsBoundCommand : Input → Bool → Option KeyCommand → Type 0
-IsBoundCommand input is_modal None = All (λ binding. binds binding input is_modal ≡ false) key_table
-IsBoundCommand input is_modal (Some found) = (binding : Binding) × Contains key_table binding × (binds binding input is_modal ≡ true) × (binding.command ≡ found)
 
 -- how lines are wrapped, if long ones are or not
 abbrev pub wrap_mode : Bool → WrapMode

@@ -10,27 +10,28 @@ use Rattle.textarea_data.specs.declared.input.Input.{Input}
 use Rattle.textarea_data.specs.declared.input.Key.{Key}
 use Rattle.textarea_data.specs.declared.input.Key.TheVariants.{MouseScrollDown, MouseScrollUp}
 use Rattle.textarea_editor.specs.Effects.{IsAnswered, IsSaveAsked, optional_bytes}
-use Rattle.textarea_editor.specs.EventCalls.{IsBoundCommand, prompt_line}
-use Rattle.textarea_editor.specs.HelpKeys.{help_key}
-use Rattle.textarea_editor.specs.PromptKeys.{prompt_key}
-use Rattle.textarea_editor.specs.ReplaceKeys.{replace_key}
-use Rattle.textarea_editor.specs.Replies.{reply_of}
-use Rattle.textarea_editor.specs.TypedInput.{typed_input}
+use Rattle.textarea_editor.specs.EventCalls.{prompt_line}
 use Rattle.textarea_editor.specs.declared.controls.Controls.{Controls}
 use Rattle.textarea_editor.specs.declared.effect.Effect.{Effect}
 use Rattle.textarea_editor.specs.declared.effect.Effect.TheVariants.{Copy, Nothing, Quit}
-use Rattle.textarea_editor.specs.declared.focus.Asked.{Asked}
-use Rattle.textarea_editor.specs.declared.focus.Asked.TheVariants as asks
-use Rattle.textarea_editor.specs.declared.focus.Focus.{Focus}
-use Rattle.textarea_editor.specs.declared.focus.Focus.TheVariants as focus
-use Rattle.textarea_editor.specs.declared.focus.HelpKey.{HelpKey}
-use Rattle.textarea_editor.specs.declared.focus.HelpKey.TheVariants as help
-use Rattle.textarea_editor.specs.declared.focus.PromptKey.{PromptKey}
-use Rattle.textarea_editor.specs.declared.focus.PromptKey.TheVariants as prompt
-use Rattle.textarea_editor.specs.declared.keys.KeyCommand.{KeyCommand}
-use Rattle.textarea_editor.specs.declared.keys.KeyCommand.TheVariants as command
-use Rattle.textarea_editor.specs.declared.replace_keys.ReplaceKey.{ReplaceKey}
-use Rattle.textarea_editor.specs.declared.replace_keys.ReplaceKey.TheVariants as replace
+use Rattle.textarea_keys.specs.Bindings.{IsBoundCommand}
+use Rattle.textarea_keys.specs.HelpKeys.{help_key}
+use Rattle.textarea_keys.specs.PromptKeys.{prompt_key}
+use Rattle.textarea_keys.specs.ReplaceKeys.{replace_key}
+use Rattle.textarea_keys.specs.Replies.{reply_of}
+use Rattle.textarea_keys.specs.TypedInput.{typed_input}
+use Rattle.textarea_keys.specs.declared.focus.Asked.{Asked}
+use Rattle.textarea_keys.specs.declared.focus.Asked.TheVariants as asks
+use Rattle.textarea_keys.specs.declared.focus.Focus.{Focus}
+use Rattle.textarea_keys.specs.declared.focus.Focus.TheVariants as focus
+use Rattle.textarea_keys.specs.declared.focus.HelpKey.{HelpKey}
+use Rattle.textarea_keys.specs.declared.focus.HelpKey.TheVariants as help
+use Rattle.textarea_keys.specs.declared.focus.PromptKey.{PromptKey}
+use Rattle.textarea_keys.specs.declared.focus.PromptKey.TheVariants as prompt
+use Rattle.textarea_keys.specs.declared.keys.KeyCommand.{KeyCommand}
+use Rattle.textarea_keys.specs.declared.keys.KeyCommand.TheVariants as command
+use Rattle.textarea_keys.specs.declared.replace_keys.ReplaceKey.{ReplaceKey}
+use Rattle.textarea_keys.specs.declared.replace_keys.ReplaceKey.TheVariants as replace
 use Rattle.textarea_modal.specs.Calls.{key_call}
 use Rattle.textarea_modal.specs.Table.{step}
 use Rattle.textarea_modal.specs.declared.mode.Mode.{Mode}

@@ -1,7 +1,7 @@
 -- Words and lines, as a double and a triple click select them.
 use Rattle.std.specs.Prelude.{◌≡◌, ◌≢◌, ◌<◌, ◌≤◌, ℕ, ◌+◌, ◌-◌, nat_lt, List, length, Option, Some, None, if◌then◌else◌}
-use Rattle.textarea_editor.specs.declared.click.Extent.{Extent}
-use Rattle.textarea_editor.specs.declared.click.Extent.TheVariants.{Line, Word}
+use Rattle.textarea_keys.specs.declared.click.Extent.{Extent}
+use Rattle.textarea_keys.specs.declared.click.Extent.TheVariants.{Line, Word}
 use Rattle.textarea_text.specs.Place.{Place, last_row, line_end, line_of}
 use Rattle.textarea_text.specs.Words.{class_at}
 

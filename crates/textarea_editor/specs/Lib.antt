@@ -1,5 +1,4 @@
 pub mod Arguments
-pub mod Clicks
 pub mod ControlCharacters
 pub mod Controls
 pub mod Draft
@@ -8,11 +7,9 @@ pub mod Effects
 pub mod EventCalls
 pub mod EventEffects
 pub mod Extents
-pub mod HelpKeys
-pub mod HelpRows
+pub mod HelpScrolling
 pub mod Indents
 pub mod JournalQuestions
-pub mod KeyTable
 pub mod LineNumber
 pub mod Messages
 pub mod Names
@@ -20,10 +17,7 @@ pub mod Openings
 pub mod Pages
 pub mod Patterns
 pub mod Positions
-pub mod PromptKeys
 pub mod PromptText
-pub mod ReplaceKeys
-pub mod Replies
 pub mod Runs
 pub mod SaveEnds
 pub mod Screen
@@ -39,4 +33,3 @@ pub mod Storage
 pub mod TerminalColors
 pub mod TerminalScreen
 pub mod Turns
-pub mod TypedInput

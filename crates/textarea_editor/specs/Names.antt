@@ -5,23 +5,23 @@ use Rattle.std.specs.declared.alloc.Global.{Global}
 use Rattle.textarea_data.specs.declared.input.Input.{Input}
 use Rattle.textarea_editor.specs.Effects.{optional_bytes}
 use Rattle.textarea_editor.specs.EventCalls.{prompt_line}
-use Rattle.textarea_editor.specs.PromptKeys.{prompt_key}
-use Rattle.textarea_editor.specs.Replies.{reply_of}
 use Rattle.textarea_editor.specs.SaveEnds.{name_left}
-use Rattle.textarea_editor.specs.TypedInput.{typed_input}
 use Rattle.textarea_editor.specs.declared.editor.Editor.{Editor}
-use Rattle.textarea_editor.specs.declared.focus.Asked.{Asked}
-use Rattle.textarea_editor.specs.declared.focus.Asked.TheVariants as asks
-use Rattle.textarea_editor.specs.declared.focus.Focus.{Focus}
-use Rattle.textarea_editor.specs.declared.focus.Focus.TheVariants as focus
-use Rattle.textarea_editor.specs.declared.focus.KeyReply.{KeyReply}
-use Rattle.textarea_editor.specs.declared.focus.KeyReply.TheVariants as reply
-use Rattle.textarea_editor.specs.declared.focus.PromptKey.{PromptKey}
-use Rattle.textarea_editor.specs.declared.focus.PromptKey.TheVariants as prompt
-use Rattle.textarea_editor.specs.declared.focus.Question.{Question}
-use Rattle.textarea_editor.specs.declared.focus.Question.TheVariants.{Overwrite}
 use Rattle.textarea_files.specs.DiskFiles.{is_saved}
 use Rattle.textarea_files.specs.declared.save_end.SaveEnd.{SaveEnd}
+use Rattle.textarea_keys.specs.PromptKeys.{prompt_key}
+use Rattle.textarea_keys.specs.Replies.{reply_of}
+use Rattle.textarea_keys.specs.TypedInput.{typed_input}
+use Rattle.textarea_keys.specs.declared.focus.Asked.{Asked}
+use Rattle.textarea_keys.specs.declared.focus.Asked.TheVariants as asks
+use Rattle.textarea_keys.specs.declared.focus.Focus.{Focus}
+use Rattle.textarea_keys.specs.declared.focus.Focus.TheVariants as focus
+use Rattle.textarea_keys.specs.declared.focus.KeyReply.{KeyReply}
+use Rattle.textarea_keys.specs.declared.focus.KeyReply.TheVariants as reply
+use Rattle.textarea_keys.specs.declared.focus.PromptKey.{PromptKey}
+use Rattle.textarea_keys.specs.declared.focus.PromptKey.TheVariants as prompt
+use Rattle.textarea_keys.specs.declared.focus.Question.{Question}
+use Rattle.textarea_keys.specs.declared.focus.Question.TheVariants.{Overwrite}
 use Rattle.textarea_terminal.specs.declared.input.event.Event.{Event}
 use Rattle.textarea_terminal.specs.declared.input.event.Event.TheVariants as event
 use Rattle.tui_textarea.specs.State.{State}

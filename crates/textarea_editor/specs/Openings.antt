@@ -13,7 +13,6 @@ use Rattle.textarea_editor.specs.Effects.{IsWritten, optional_bytes}
 use Rattle.textarea_editor.specs.JournalQuestions.{journal_question}
 use Rattle.textarea_editor.specs.SetUp.{IsNewFile, IsOpened, IsViewed}
 use Rattle.textarea_editor.specs.declared.editor.Editor.{Editor}
-use Rattle.textarea_editor.specs.declared.focus.Focus.TheVariants as focus
 use Rattle.textarea_editor.specs.declared.message.Message.{Message}
 use Rattle.textarea_editor.specs.declared.message.Message.TheVariants as message
 use Rattle.textarea_editor.specs.declared.storage.Storage.{Storage}
@@ -22,6 +21,7 @@ use Rattle.textarea_files.specs.JournalFiles.{IsJournalFound, none_open}
 use Rattle.textarea_files.specs.declared.disk.journal_file.FoundJournal.{FoundJournal}
 use Rattle.textarea_files.specs.declared.disk.journal_file.FoundJournal.TheVariants as journal
 use Rattle.textarea_files.specs.declared.trouble.Trouble.{Trouble}
+use Rattle.textarea_keys.specs.declared.focus.Focus.TheVariants as focus
 
 -- ---- the editor
 

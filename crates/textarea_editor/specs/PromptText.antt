@@ -3,9 +3,9 @@ use Rattle.std.specs.Prelude.{Option, None, Some, String, string_bytes}
 use Rattle.std.specs.Str.{chars}
 use Rattle.std.specs.declared.alloc.Global.{Global}
 use Rattle.textarea_editor.specs.Patterns.{first_line}
-use Rattle.textarea_editor.specs.declared.focus.Asked.{Asked}
-use Rattle.textarea_editor.specs.declared.focus.Asked.TheVariants as asks
 use Rattle.textarea_data.specs.declared.range.AtomicCursorBias.TheVariants.{Forward}
+use Rattle.textarea_keys.specs.declared.focus.Asked.{Asked}
+use Rattle.textarea_keys.specs.declared.focus.Asked.TheVariants as asks
 use Rattle.textarea_text.specs.Fragment.{fragment_symbols}
 use Rattle.tui_textarea.specs.Edits.{str_inserted}
 use Rattle.tui_textarea.specs.Guards.{admitted_over_selection, unless_read_only}

@@ -5,14 +5,14 @@ use Rattle.textarea_editor.specs.Controls.{prompt_opened, with_focus}
 use Rattle.textarea_editor.specs.declared.controls.Controls.{Controls}
 use Rattle.textarea_editor.specs.declared.effect.Effect.{Effect}
 use Rattle.textarea_editor.specs.declared.effect.Effect.TheVariants.{Nothing, Quit}
-use Rattle.textarea_editor.specs.declared.focus.Asked.{Asked}
-use Rattle.textarea_editor.specs.declared.focus.Asked.TheVariants as asks
-use Rattle.textarea_editor.specs.declared.focus.Focus.TheVariants as focus
-use Rattle.textarea_editor.specs.declared.focus.Question.TheVariants.{Overwrite}
 use Rattle.textarea_editor.specs.declared.message.Message.{Message}
 use Rattle.textarea_editor.specs.declared.message.Message.TheVariants as message
 use Rattle.textarea_files.specs.declared.save_end.SaveEnd.{SaveEnd}
 use Rattle.textarea_files.specs.declared.save_end.SaveEnd.TheVariants as ended
+use Rattle.textarea_keys.specs.declared.focus.Asked.{Asked}
+use Rattle.textarea_keys.specs.declared.focus.Asked.TheVariants as asks
+use Rattle.textarea_keys.specs.declared.focus.Focus.TheVariants as focus
+use Rattle.textarea_keys.specs.declared.focus.Question.TheVariants.{Overwrite}
 use Rattle.textarea_text.specs.Place.{Place}
 
 -- a failed save doesn't end the program, and another name is asked for; where memory runs out for that, the text has the focus as before

@@ -2,8 +2,8 @@
 use Rattle.std.specs.Prelude.{◌≡◌, ℕ, Option, None}
 use Rattle.std.specs.Option.{option_map}
 use Rattle.textarea_editor.specs.declared.editor.Editor.{Editor}
-use Rattle.textarea_editor.specs.declared.focus.Focus.{Focus}
-use Rattle.textarea_editor.specs.declared.focus.Focus.TheVariants as focus
+use Rattle.textarea_keys.specs.declared.focus.Focus.{Focus}
+use Rattle.textarea_keys.specs.declared.focus.Focus.TheVariants as focus
 use Rattle.textarea_screen.specs.declared.screen.rect.Position.{Position}
 use Rattle.textarea_view.specs.Placements.{cell_of_position}
 use Rattle.textarea_screen.specs.declared.screen.buffer.Buffer.{Buffer}

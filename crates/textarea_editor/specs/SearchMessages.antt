@@ -4,7 +4,7 @@ use Rattle.textarea_calls.specs.declared.call.Call.{Call}
 use Rattle.textarea_calls.specs.declared.call.Call.TheVariants.{SearchBack, SearchForward}
 use Rattle.textarea_editor.specs.declared.message.Message.{Message}
 use Rattle.textarea_editor.specs.declared.message.Message.TheVariants.{BrokenPattern, FromEnd, FromStart, NoMatch}
-use Rattle.textarea_editor.specs.declared.search.SearchOptions.{SearchOptions}
+use Rattle.textarea_keys.specs.declared.search.SearchOptions.{SearchOptions}
 use Rattle.textarea_text.specs.Place.{Place, is_before}
 use Rattle.tui_textarea.specs.Search.{match_count}
 use Rattle.tui_textarea.specs.State.{State}

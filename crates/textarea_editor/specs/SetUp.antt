@@ -6,11 +6,11 @@ use Rattle.textarea_document.specs.Prelude.{history_forgotten}
 use Rattle.textarea_editor.specs.Draft.{IsSaved}
 use Rattle.textarea_editor.specs.Editor.{new_ends}
 use Rattle.textarea_editor.specs.EventCalls.{wrap_mode}
-use Rattle.textarea_editor.specs.Patterns.{plain_options}
 use Rattle.textarea_editor.specs.declared.controls.Controls.{Controls}
 use Rattle.textarea_editor.specs.declared.editor.Editor.{Editor}
-use Rattle.textarea_editor.specs.declared.focus.Focus.TheVariants as focus
 use Rattle.textarea_editor.specs.declared.message.Message.TheVariants as told
+use Rattle.textarea_keys.specs.SearchOptions.{plain_options}
+use Rattle.textarea_keys.specs.declared.focus.Focus.TheVariants as focus
 use Rattle.textarea_modal.specs.declared.mode.Mode.{Mode}
 use Rattle.textarea_modal.specs.declared.mode.Mode.TheVariants.{Normal}
 use Rattle.textarea_screen.specs.Style.{empty_style, with_modifier}

@@ -1,11 +1,12 @@
 -- The size of the screen and the help after each event, as a table.
 use Rattle.std.specs.Prelude.{◌≡◌, ◌+◌, ◌-◌, ◌^◌, ℕ, min}
 use Rattle.textarea_data.specs.declared.input.Input.{Input}
-use Rattle.textarea_editor.specs.HelpKeys.{IsHelpAfter, help_key}
-use Rattle.textarea_editor.specs.TypedInput.{typed_input}
+use Rattle.textarea_editor.specs.HelpScrolling.{IsHelpAfter}
 use Rattle.textarea_editor.specs.declared.editor.Editor.{Editor}
-use Rattle.textarea_editor.specs.declared.focus.Focus.{Focus}
-use Rattle.textarea_editor.specs.declared.focus.Focus.TheVariants as focus
+use Rattle.textarea_keys.specs.HelpKeys.{help_key}
+use Rattle.textarea_keys.specs.TypedInput.{typed_input}
+use Rattle.textarea_keys.specs.declared.focus.Focus.{Focus}
+use Rattle.textarea_keys.specs.declared.focus.Focus.TheVariants as focus
 use Rattle.textarea_terminal.specs.declared.input.event.Event.{Event}
 use Rattle.textarea_terminal.specs.declared.input.event.Event.TheVariants as event
 use Rattle.tui_textarea.specs.State.{State}

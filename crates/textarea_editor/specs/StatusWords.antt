@@ -5,13 +5,13 @@ use Rattle.std.specs.declared.alloc.Global.{Global}
 use Rattle.textarea_editor.specs.Messages.{message_words}
 use Rattle.textarea_editor.specs.Shortened.{fitted_name}
 use Rattle.textarea_editor.specs.declared.editor.Editor.{Editor}
-use Rattle.textarea_editor.specs.declared.focus.Asked.TheVariants as asks
-use Rattle.textarea_editor.specs.declared.focus.Focus.{Focus}
-use Rattle.textarea_editor.specs.declared.focus.Focus.TheVariants as focus
-use Rattle.textarea_editor.specs.declared.focus.Question.TheVariants.{Discard, Overwrite, Recover, SaveFirst}
 use Rattle.textarea_editor.specs.declared.message.Message.{Message}
 use Rattle.textarea_editor.specs.declared.message.Message.TheVariants as message
-use Rattle.textarea_editor.specs.declared.search.SearchOptions.{SearchOptions}
+use Rattle.textarea_keys.specs.declared.focus.Asked.TheVariants as asks
+use Rattle.textarea_keys.specs.declared.focus.Focus.{Focus}
+use Rattle.textarea_keys.specs.declared.focus.Focus.TheVariants as focus
+use Rattle.textarea_keys.specs.declared.focus.Question.TheVariants.{Discard, Overwrite, Recover, SaveFirst}
+use Rattle.textarea_keys.specs.declared.search.SearchOptions.{SearchOptions}
 use Rattle.textarea_modal.specs.declared.mode.Mode.{Mode}
 use Rattle.textarea_modal.specs.declared.mode.Mode.TheVariants as mode
 use Rattle.textarea_text.specs.Text.{lines}

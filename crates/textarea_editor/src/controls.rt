@@ -3,9 +3,9 @@
 ghost use Rattle.std.specs.Prelude.{◌≡◌};
 ghost use Rattle.textarea_editor.specs.SetUp.{new_controls, new_modal};
 
-use crate::click::Press;
-use crate::focus::Focus;
-use crate::search::SearchOptions;
+use textarea_keys::click::Press;
+use textarea_keys::focus::Focus;
+use textarea_keys::search::SearchOptions;
 use textarea_modal::Modal;
 
 /// What decides, beside the texts, what the next event does in an editor.

@@ -6,7 +6,7 @@ ghost use Rattle.textarea_editor.specs.Extents.{IsExtent, IsClassRunAt, ends_in_
 ghost use Rattle.textarea_text.specs.Text.{lines_of};
 ghost use Rattle.textarea_text.specs.Words.{is_same_class};
 
-use crate::click::Extent;
+use textarea_keys::click::Extent;
 use textarea_text::places::{last_row, line_end, line_of};
 use textarea_text::word::CharKind;
 

@@ -6,25 +6,18 @@
 #![tactic(auto)]
 
 pub mod arguments;
-pub mod click;
 mod control_characters;
 pub mod controls;
 pub mod draft;
 pub mod editor;
 pub mod effect;
 mod extents;
-pub mod focus;
-pub mod help;
 pub mod indent;
-pub mod key_names;
-pub mod keys;
 pub mod laws;
 pub mod line_number;
 pub mod message;
 pub mod pattern;
-pub mod replace_keys;
 pub mod screen;
-pub mod search;
 mod shortened;
 pub mod storage;
 pub mod terminal_colors;
@@ -35,4 +28,5 @@ pub use effect::{Effect, SaveEnd, SaveRequest};
 pub use screen::Screen;
 pub use storage::Storage;
 pub use textarea_files::{DiskFile, disk, file_text, viewed};
+pub use textarea_keys::{click, focus, help, key_names, keys, replace_keys, search};
 pub use textarea_terminal::input::Event;

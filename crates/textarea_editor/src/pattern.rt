@@ -4,8 +4,8 @@ ghost use Rattle.std.specs.Str.{chars};
 ghost use Rattle.textarea_editor.specs.Patterns.{case_mark, ends_line, first_line, pattern_of, worded};
 ghost use Rattle.textarea_text.specs.Text.{characters_of};
 
-use crate::search::SearchOptions;
 use std::alloc::{AllocError, Global};
+use textarea_keys::search::SearchOptions;
 
 /// Returns the pattern of a text that is one, for letters of either case and for whole words, if
 /// the options ask for that. The empty text gives the empty pattern.

@@ -4,12 +4,12 @@ ghost use Rattle.textarea_editor.specs.Draft.{FailsIn, FailsInSome, Makes, Makes
 ghost use Rattle.textarea_editor.specs.EventCalls.{IsClick, IsMouse, IsWholeClick, ends_calls, is_selecting, selection_calls, to_calls};
 ghost use Rattle.tui_textarea.specs.Drawing.{widget_of};
 
-use crate::click::{Click, Extent};
 use crate::draft::Draft;
 use crate::extents::{BothEnds, ends_at};
 use std::alloc::AllocError;
 use textarea_calls::Call;
 use textarea_data::cursor::CursorMove;
+use textarea_keys::click::{Click, Extent};
 use textarea_screen::screen::Position;
 
 impl Draft {

@@ -8,9 +8,9 @@ ghost use Rattle.textarea_editor.specs.SearchMessages.{has_match, searches};
 
 use crate::draft::Draft;
 use crate::pattern::pattern_of;
-use crate::search::SearchOptions;
 use std::alloc::AllocError;
 use textarea_calls::Call;
+use textarea_keys::search::SearchOptions;
 
 impl Draft {
     /// Moves the cursor to the position (row, column). An open selection stays open.

@@ -3,16 +3,16 @@ ghost use Rattle.std.specs.Prelude.{◌≡◌, is_some};
 ghost use Rattle.textarea_editor.specs.Controls.{after_reply, left};
 ghost use Rattle.textarea_editor.specs.Effects.{IsAnswered, optional_bytes};
 ghost use Rattle.textarea_editor.specs.Names.{KeepsNames, LeavesNames, NamesByReply, names_of};
-ghost use Rattle.textarea_editor.specs.Replies.{reply_of};
 ghost use Rattle.textarea_editor.specs.Sizes.{KeepsShown, shown_by};
 ghost use Rattle.textarea_editor.specs.StepOf.{IsNamingStepBeside};
-ghost use Rattle.textarea_editor.specs.declared.focus.Focus.TheVariants as focus;
+ghost use Rattle.textarea_keys.specs.Replies.{reply_of};
+ghost use Rattle.textarea_keys.specs.declared.focus.Focus.TheVariants as focus;
 
 use super::Editor;
 use crate::effect::Effect;
-use crate::focus::{Asked, Focus, KeyReply, Question, reply_of};
 use std::alloc::AllocError;
 use textarea_data::input::Input;
+use textarea_keys::focus::{Asked, Focus, KeyReply, Question, reply_of};
 
 impl Editor {
     // Takes a key as the reply to a question. Another key than those that are offered leaves the

@@ -15,12 +15,12 @@ use super::Editor;
 use crate::control_characters::count_message;
 use crate::editor::parts::wrap_mode;
 use crate::effect::Effect;
-use crate::focus::{Asked, Focus};
-use crate::keys::KeyCommand;
 use crate::message::Message;
 use std::alloc::AllocError;
 use textarea_calls::Call;
 use textarea_data::cursor::CursorMove;
+use textarea_keys::focus::{Asked, Focus};
+use textarea_keys::keys::KeyCommand;
 use textarea_screen::screen::{Color, Style};
 
 // The pattern of control characters but tabs.

@@ -10,9 +10,9 @@ ghost use Rattle.tui_textarea.specs.Drawing.{IsRendered, widget_of};
 ghost use Rattle.tui_textarea.specs.Rendered.{IsDrawn};
 
 use super::Editor;
-use crate::focus::Focus;
 use crate::shortened::columns_of;
 use std::alloc::AllocError;
+use textarea_keys::focus::Focus;
 use textarea_paint::paint::{RowArea, draw_row};
 use textarea_screen::screen::{Alignment, Buffer, Line, Modifier, Position, Rect, Style};
 

@@ -12,10 +12,10 @@ use super::{Editor, WHEEL_DOWN, WHEEL_UP};
 use crate::draft::copies;
 use crate::effect::Effect;
 use crate::indent::keeps_indent;
-use crate::keys::command_of;
 use std::alloc::AllocError;
 use textarea_calls::Call;
 use textarea_data::input::{Input, Key};
+use textarea_keys::keys::command_of;
 use textarea_modal::Modal;
 
 impl Editor {

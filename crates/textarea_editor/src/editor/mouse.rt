@@ -8,11 +8,11 @@ ghost use Rattle.tui_textarea.specs.Drawing.{widget_of};
 ghost use Rattle.textarea_editor.specs.StepOf.{IsStepOf};
 
 use super::Editor;
-use crate::click::{Click, click_below, click_by, press_after};
 use crate::effect::Effect;
-use crate::focus::Focus;
 use std::alloc::AllocError;
 use std::time::Duration;
+use textarea_keys::click::{Click, click_below, click_by, press_after};
+use textarea_keys::focus::Focus;
 use textarea_screen::screen::Position;
 use textarea_terminal::input::Mouse;
 

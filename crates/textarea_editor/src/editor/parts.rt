@@ -8,10 +8,10 @@ ghost use Rattle.textarea_text.specs.Text.{text_of};
 ghost use Rattle.tui_textarea.specs.LayoutCalls.{with_wrap_mode};
 
 use crate::draft::Draft;
-use crate::help::help_lines;
 use std::alloc::{AllocError, Global};
 use textarea_data::cursor::{CursorRenderMode, CursorUnit};
 use textarea_files::file_text::{LineEnds, line_end_of, lines_of};
+use textarea_keys::help::help_lines;
 use textarea_screen::screen::{Color, Modifier, Style};
 use textarea_wrap::wrap::WrapMode;
 use tui_textarea::TextArea;

@@ -4,23 +4,23 @@ ghost use Rattle.textarea_editor.specs.Controls.{IsAfterPromptKey, IsNameTaken, 
 ghost use Rattle.textarea_editor.specs.EventEffects.{IsNameEffect, IsNothing, IsPromptEffect, IsTakenEffect};
 ghost use Rattle.textarea_editor.specs.EventCalls.{IsKeyInPrompt, IsLineAsked, IsLookingFor, IsPasteInPrompt, IsPromptChanged, IsPromptInput, IsPromptTaken, IsSought, row_calls};
 ghost use Rattle.textarea_editor.specs.Names.{KeepsNames, NamesByKey, NamesTaken, TakesName, names_of};
-ghost use Rattle.textarea_editor.specs.PromptKeys.{prompt_key};
 ghost use Rattle.textarea_editor.specs.PromptText.{filled, name_filled, text_recalled};
 ghost use Rattle.textarea_editor.specs.SearchMessages.{IsLookTold, IsSearchTold, has_match, search_message};
 ghost use Rattle.textarea_editor.specs.Sizes.{KeepsShown, shown_by};
 ghost use Rattle.textarea_editor.specs.StepOf.{IsKept, IsNamingStepBeside, IsNamingStepOf, IsStepBy, IsStepOf};
-ghost use Rattle.textarea_editor.specs.declared.focus.Focus.TheVariants as focus;
+ghost use Rattle.textarea_keys.specs.PromptKeys.{prompt_key};
+ghost use Rattle.textarea_keys.specs.declared.focus.Focus.TheVariants as focus;
 ghost use Rattle.tui_textarea.specs.Search.{match_count};
 
 use super::Editor;
 use crate::effect::Effect;
-use crate::focus::{Asked, Focus, PromptKey, prompt_key};
 use crate::line_number::{line_number, row_of_line};
 use crate::message::Message;
 use crate::pattern::first_line;
-use crate::search::SearchOptions;
 use std::alloc::AllocError;
 use textarea_data::input::Input;
+use textarea_keys::focus::{Asked, Focus, PromptKey, prompt_key};
+use textarea_keys::search::SearchOptions;
 use textarea_run::inputs::copied;
 use tui_textarea::TextArea;
 

@@ -9,10 +9,10 @@ ghost use Rattle.textarea_editor.specs.JournalQuestions.{journal_question};
 ghost use Rattle.textarea_editor.specs.SetUp.{IsOpened};
 
 use super::Editor;
-use crate::focus::{Focus, Question};
 use crate::message::Message;
 use std::alloc::AllocError;
 use textarea_files::file_text::joined;
+use textarea_keys::focus::{Focus, Question};
 
 impl Editor {
     /// Asks about a journal that was found: of one of the file as it is, whether to go on with its

@@ -7,21 +7,21 @@ ghost use Rattle.textarea_editor.specs.EventEffects.{IsNothing, replace_effect};
 ghost use Rattle.textarea_editor.specs.EventCalls.{IsLookingFor, IsReplacingText, replace_calls, skip_calls};
 ghost use Rattle.textarea_editor.specs.Names.{KeepsNames, names_of};
 ghost use Rattle.textarea_editor.specs.Patterns.{borrowed};
-ghost use Rattle.textarea_editor.specs.ReplaceKeys.{replace_key};
 ghost use Rattle.textarea_editor.specs.Sizes.{KeepsShown, shown_by};
 ghost use Rattle.textarea_editor.specs.StepOf.{IsStepBeside, IsStepBy, IsStepOf};
-ghost use Rattle.textarea_editor.specs.declared.focus.Asked.TheVariants as asks;
-ghost use Rattle.textarea_editor.specs.declared.focus.Focus.TheVariants as focus;
+ghost use Rattle.textarea_keys.specs.ReplaceKeys.{replace_key};
+ghost use Rattle.textarea_keys.specs.declared.focus.Asked.TheVariants as asks;
+ghost use Rattle.textarea_keys.specs.declared.focus.Focus.TheVariants as focus;
 ghost use Rattle.tui_textarea.specs.Search.{match_count};
 
 use super::Editor;
 use crate::effect::Effect;
-use crate::focus::{Asked, Focus};
 use crate::message::Message;
-use crate::replace_keys::{ReplaceKey, replace_key};
 use std::alloc::AllocError;
 use textarea_calls::Call;
 use textarea_data::input::Input;
+use textarea_keys::focus::{Asked, Focus};
+use textarea_keys::replace_keys::{ReplaceKey, replace_key};
 
 impl Editor {
     // Looks for the prompt's text, and asks what replaces it.

@@ -14,11 +14,11 @@ ghost use Rattle.textarea_files.specs.DiskFiles.{is_saved};
 use super::Editor;
 use crate::editor::replacing::text_or_empty;
 use crate::effect::{Effect, SaveEnd, SaveRequest};
-use crate::focus::{Asked, Focus, Question};
 use crate::message::Message;
 use std::alloc::AllocError;
 use std::mem;
 use textarea_files::file_text::joined;
+use textarea_keys::focus::{Asked, Focus, Question};
 
 impl Editor {
     // Asks the program to save the text, or first for a name if it has none.

@@ -7,7 +7,7 @@ ghost use Rattle.textarea_text.specs.Place.{is_before};
 
 use super::Editor;
 use crate::message::Message;
-use crate::search::SearchOptions;
+use textarea_keys::search::SearchOptions;
 
 impl Editor {
     // Shows that a search from a position has no match, or that it went past an end of the text to the

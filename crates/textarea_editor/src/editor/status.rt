@@ -5,10 +5,10 @@ ghost use Rattle.textarea_text.specs.Text.{lines};
 ghost use Rattle.tui_textarea.specs.Search.{match_count, match_index};
 
 use super::Editor;
-use crate::focus::{Asked, Focus, Question};
 use crate::message::{Message, message_text};
 use crate::shortened::fitted_name;
 use std::alloc::{AllocError, Global};
+use textarea_keys::focus::{Asked, Focus, Question};
 use textarea_modal::Mode;
 
 // The most lines of a text whose matches are counted while the prompt is open.

@@ -8,9 +8,9 @@ ghost use Rattle.textarea_editor.specs.StatusWords.{reminder};
 
 use super::{Editor, WRAPPED_BYTES};
 use crate::editor::parts::{replace, viewed_draft};
-use crate::focus::Focus;
 use crate::message::Message;
 use std::alloc::AllocError;
+use textarea_keys::focus::Focus;
 
 impl Editor {
     /// Replaces the text by one that shows a file which isn't UTF-8, as

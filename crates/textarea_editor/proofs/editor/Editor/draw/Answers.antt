@@ -5,7 +5,7 @@ use Rattle.textarea_editor.specs.Editor.{ShowsHelp}
 use Rattle.textarea_editor.specs.Screen.{IsFrameCaret}
 use Rattle.textarea_editor.specs.declared.draft.Draft.{Draft}
 use Rattle.textarea_editor.specs.declared.editor.Editor.{Editor}
-use Rattle.textarea_editor.specs.declared.focus.Focus.{Focus}
+use Rattle.textarea_keys.specs.declared.focus.Focus.{Focus}
 use Rattle.textarea_screen.specs.Rect.{contains}
 use Rattle.tui_textarea.specs.Drawing.{IsRendered}
 

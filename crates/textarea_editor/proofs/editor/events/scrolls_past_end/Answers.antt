@@ -1,7 +1,7 @@
 use Rattle.std.proofs.Common.{◌∙◌, ℕ, ap, length, sym}
 use Rattle.std.proofs.lemmas.List.{length-map}
 use Rattle.textarea_editor.proofs.editor.events.scrolls_past_end.Goals as goal
-use Rattle.textarea_editor.specs.HelpKeys.{passes_last_rows}
+use Rattle.textarea_editor.specs.HelpScrolling.{passes_last_rows}
 use Rattle.textarea_text.specs.Text.{characters_of}
 use Rattle.textarea_view.specs.Scrolled.{scrolled_by}
 use Rattle.textarea_view.specs.Viewport.{ViewportState}

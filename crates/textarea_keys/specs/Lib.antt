@@ -1,0 +1,10 @@
+pub mod Bindings
+pub mod Clicks
+pub mod HelpKeys
+pub mod HelpRows
+pub mod KeyTable
+pub mod PromptKeys
+pub mod ReplaceKeys
+pub mod Replies
+pub mod SearchOptions
+pub mod TypedInput
