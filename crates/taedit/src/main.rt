@@ -26,7 +26,8 @@ fn main(rt: HostRuntime) -> Result<()> {
     }
 }
 
-// Edits the file of the arguments. What owns an editor or a screen only passes it on, and drops it.
+// Edits the file of the arguments. A function that owns an editor, a screen or a storage lends it to
+// another one, and then drops it: so its proof is short.
 fn edit(rt: &HostRuntime, arguments: Arguments<'_>) -> Result<()> {
     let (columns, rows) = (size_in(rt, "COLUMNS", 80), size_in(rt, "LINES", 24));
     let mut editor = Editor::new(rt.alloc(), columns, rows, arguments.is_modal)?;

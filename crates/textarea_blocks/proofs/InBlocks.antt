@@ -1,8 +1,10 @@
 -- Rows in blocks: totals before a block, the block of a line, and all rows after one block changed.
 use Rattle.std.proofs.lemmas.Grind.{common_steps}
-use Rattle.std.proofs.Common.{◌≡◌, ℕ, zero, suc, ◌+◌, ◌-◌, ◌<◌, ◌≤◌, inl, inr, List, Result, Ok, Err, cond, [], ◌∷◌, ◌++◌, Vec, length, take, drop, get_or, set, vec_len, vec_capacity, sym, ap, refl, ◌∙◌, arith}
+use Rattle.std.proofs.Common.{◌≡◌, ℕ, zero, suc, ◌+◌, ◌-◌, ◌<◌, ◌≤◌, inl, inr, List, Some, Result, Ok, Err, cond, [], ◌∷◌, ◌++◌, Vec, length, take, drop, get_or, set, vec_len, vec_capacity, sym, ap, refl, ◌∙◌, arith}
 use Rattle.textarea_blocks.specs.Prelude.{IsOk, is_ok, BlocksView, RowsView, replaced, IsBlockOf, IsEdge, all_rows, lines_before, rows_of_each, spare_of_each, marks_at, ranges_at, row_total}
 use Rattle.std.proofs.lemmas.Bool.{cases_lt}
+use Rattle.std.specs.List.{slice_get}
+use Rattle.std.proofs.lemmas.Option.{slice_get-get_or}
 use Rattle.std.proofs.lemmas.List.{append-nil, append_assoc, drop-append-le, drop_all, drop_at, drop-drop, drop_more, get_or-append-add, get_or_append_left, get_or-map, get_or-set_same, length-append, length-drop}
 use Rattle.std.proofs.lemmas.List.{length-map, map-append, length-set, map-set, set_split, take_all, take-append-drop, take-append-le, take-map, take_more, take_more_set, take-set-le, drop-map, drop-set-lt}
 use Rattle.std.proofs.Math.Seq.{take-add, take-append-add}
@@ -141,6 +143,12 @@ pub marks_in_block :
     → lines_before blocks block + index ≡ line → rows ≡ get_or (get_or blocks block []) index rows → rows.marks ≡ marks_at (all_rows blocks) line
 marks_in_block blocks block index line rows within inside at is =
     grind (arith, common_steps, line_there blocks block index within inside, line_in_block blocks block index rows within inside, get_or-map)
+
+pub slice_in_block :
+    (blocks : List (List RowsView)) (block index line : ℕ) (rows : RowsView) → block < length blocks → index < length (get_or blocks block [])
+    → lines_before blocks block + index ≡ line → rows ≡ get_or (get_or blocks block []) index rows → slice_get (all_rows blocks) line ≡ Some rows
+slice_in_block blocks block index line rows within inside at is =
+    grind (arith, common_steps, line_there blocks block index within inside, line_in_block blocks block index rows within inside, slice_get-get_or)
 
 pub total_in_block :
     (total : Sum) → IsSum total → (blocks : List (List RowsView)) (block index line : ℕ) → block < length blocks → index ≤ length (get_or blocks block []) → lines_before blocks block + index ≡ line

@@ -1,7 +1,7 @@
 -- Lemmas on journals.
 use Rattle.std.proofs.Common.{◌≡◌, ◌≢◌, ◌++◌, ◌<◌, ◌≤◌, ◌+◌, ◌-◌, ◌*◌, ◌%◌, ◌^◌, ◌∙◌, ℕ, zero, suc, List, [], ◌∷◌, length, take, drop, get_or, replicate, inl, inr, refl, sym, ap, subst, arith, lit<}
 use Rattle.std.proofs.lemmas.Bool.{cases_lt}
-use Rattle.std.proofs.lemmas.List.{append-nil, append_assoc, drop-drop, drop_at, drop_more, get_or_at, length-append, length-take-le, take-append-drop, take-append-le, take-take, take_all, take_at}
+use Rattle.std.proofs.lemmas.List.{append-nil, append_assoc, drop_at, get_or_at, length-append, length-take-le, take-append-le, take-take, take_all, take_at}
 use Rattle.std.proofs.lemmas.Nat.{from_le_bytes-to_le_bytes_8}
 use Rattle.std.proofs.Math.Seq.{take-append-add}
 use Rattle.std.specs.Prelude.{bit_xor}
@@ -169,11 +169,6 @@ whole_read stored payloads sized read =
 
 -- ---- what the code computes
 
--- no record begins bytes that are too short
-pub too_short : (bytes : List ℕ) → length bytes < 17 → HasNoRecord bytes
-too_short bytes h =
-    record { none = λ payload after sized e. absurd (omega (arith, ap length e, length-append (framed payload) after, record_length payload)) }
-
 -- a hash has 64 bits
 hash_fits : (hash : ℕ) (bytes : List ℕ) → hash < 2 ^ 64 → hash_from hash bytes < 2 ^ 64
 hash_fits hash [] h = h
@@ -194,16 +189,6 @@ second_eight payload after =
 size_read : (bytes payload after : List ℕ) (n : ℕ) → n < 2 ^ 64 → to_le_bytes w64 n ≡ take 8 bytes → IsSized payload → bytes ≡ framed payload ++ after → n ≡ length payload
 size_read bytes payload after n fits size sized e =
     same_number n (length payload) fits sized (size ∙ ap (take 8) e ∙ first_eight payload after)
-
--- a record would be longer than its bytes
-pub no_room : (bytes : List ℕ) (n : ℕ) → n < 2 ^ 64 → to_le_bytes w64 n ≡ take 8 bytes → length (drop 16 bytes) ≤ n → HasNoRecord bytes
-no_room bytes n fits size short =
-    record { none = λ payload after sized e. absurd (impossible payload after sized e) }
-  where
-    impossible : (payload after : List ℕ) → IsSized payload → bytes ≡ framed payload ++ after → ⊥
-    impossible payload after sized e =
-        let same : n ≡ length payload = size_read bytes payload after n fits size sized e in
-        omega (arith, ap length (ap (drop 16) e ∙ body_of payload after), length-append payload (1 ∷ after))
 
 -- a record's bytes would end in another one than 1
 pub no_end : (bytes : List ℕ) (n : ℕ) → n < 2 ^ 64 → to_le_bytes w64 n ≡ take 8 bytes → get_or (drop 16 bytes) n 0 ≢ 1 → HasNoRecord bytes
@@ -231,36 +216,7 @@ no_hash bytes n m fits fits_hash size hash other =
         same_number m (hash_of payload) fits_hash (hash_fits 0xcbf2_9ce4_8422_2325 payload (lit< tt)) (hash ∙ ap (λ (x : List ℕ). take 8 (drop 8 x)) e ∙ second_eight payload after) in
         other (ap hash_of read ∙ sym hashes)
 
--- bytes with all of this begin with a record
-pub record_there : (bytes : List ℕ) (n m : ℕ) → n < 2 ^ 64 → to_le_bytes w64 n ≡ take 8 bytes → to_le_bytes w64 m ≡ take 8 (drop 8 bytes) → n < length (drop 16 bytes) →
-    get_or (drop 16 bytes) n 0 ≡ 1 → hash_of (take n (drop 16 bytes)) ≡ m → BeginsWithRecord (take n (drop 16 bytes)) (drop (n + 1) (drop 16 bytes)) bytes
-record_there bytes n m fits size hash room end same =
-    let body = drop 16 bytes in
-    let payload = take n (drop 16 bytes) in
-    let long : length (take n (drop 16 bytes)) ≡ n = length-take-le n (drop 16 bytes) (omega arith) in
-    let heads : take 8 bytes ++ take 8 (drop 8 bytes) ≡ head_of (take n (drop 16 bytes)) =
-    ap (λ (x : List ℕ). x ++ take 8 (drop 8 bytes)) (sym size)
-    ∙ ap (λ (x : List ℕ). to_le_bytes w64 n ++ x) (sym hash)
-    ∙ ap (λ (k : ℕ). to_le_bytes w64 k ++ to_le_bytes w64 m) (sym long)
-    ∙ ap (λ (k : ℕ). to_le_bytes w64 (length (take n (drop 16 bytes))) ++ to_le_bytes w64 k) (sym same) in
-    let parts : drop 16 bytes ≡ take n (drop 16 bytes) ++ 1 ∷ drop (n + 1) (drop 16 bytes) =
-    sym (take-append-drop n (drop 16 bytes))
-    ∙ ap (λ (x : List ℕ). take n (drop 16 bytes) ++ x) (drop_more (drop 16 bytes) n 0 room ∙ ap (λ (k : ℕ). k ∷ drop (n + 1) (drop 16 bytes)) end) in
-    record {
-      sized = subst (λ (k : ℕ). k < 2 ^ 64) (sym long) fits;
-      same = sym (take-append-drop 8 bytes)
-          ∙ ap (λ (x : List ℕ). take 8 bytes ++ x) (sym (take-append-drop 8 (drop 8 bytes)))
-          ∙ sym (append_assoc (take 8 bytes) (take 8 (drop 8 bytes)) (drop 8 (drop 8 bytes)))
-          ∙ ap (λ (x : List ℕ). x ++ drop 8 (drop 8 bytes)) heads
-          ∙ ap (λ (x : List ℕ). head_of payload ++ x) (drop-drop 8 8 bytes ∙ parts)
-          ∙ sym (after_record payload (drop (n + 1) body));
-    }
-
 -- ---- the loop that reads
-
--- what comes after a record is shorter
-pub shorter_after : (payload after bytes : List ℕ) → BeginsWithRecord payload after bytes → length after < length bytes
-shorter_after payload after bytes b = omega (arith, ap length b.same, length-append (framed payload) after, record_length payload)
 
 -- with these payloads before it, what is left of a journal is the journal
 abbrev pub IsReadUpTo : List (List ℕ) → List ℕ → List ℕ → Type 0
@@ -272,17 +228,3 @@ read_more payloads payload after rest journal begins so_far = λ later read.
 
 pub read_all : (payloads : List (List ℕ)) (rest journal : List ℕ) → HasNoRecord rest → IsReadUpTo payloads rest journal → AreRead payloads journal
 read_all payloads rest journal none so_far = subst (λ (x : List (List ℕ)). AreRead x journal) (append-nil payloads) (so_far [] none)
-
--- ---- eight bytes
-
-pub eight_read : (bytes : List ℕ) → 8 ≤ length bytes →
-    get_or bytes 0 0 ∷ get_or bytes 1 0 ∷ get_or bytes 2 0 ∷ get_or bytes 3 0 ∷ get_or bytes 4 0 ∷ get_or bytes 5 0 ∷ get_or bytes 6 0 ∷ get_or bytes 7 0 ∷ [] ≡ take 8 bytes
-eight_read (a ∷ b ∷ c ∷ d ∷ e ∷ f ∷ g ∷ h ∷ rest) l = refl
-eight_read (a ∷ b ∷ c ∷ d ∷ e ∷ f ∷ g ∷ []) l = absurd (omega arith)
-eight_read (a ∷ b ∷ c ∷ d ∷ e ∷ f ∷ []) l = absurd (omega arith)
-eight_read (a ∷ b ∷ c ∷ d ∷ e ∷ []) l = absurd (omega arith)
-eight_read (a ∷ b ∷ c ∷ d ∷ []) l = absurd (omega arith)
-eight_read (a ∷ b ∷ c ∷ []) l = absurd (omega arith)
-eight_read (a ∷ b ∷ []) l = absurd (omega arith)
-eight_read (a ∷ []) l = absurd (omega arith)
-eight_read [] l = absurd (omega arith)

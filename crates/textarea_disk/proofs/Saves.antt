@@ -1,9 +1,9 @@
 -- Lemmas on saves.
-use Rattle.std.proofs.Common.{◌≡◌, ◌≢◌, ◌⊎◌, ◌∙◌, ℕ, List, [], ◌∷◌, Option, None, Some, inl, inr, refl, sym, ap, subst}
+use Rattle.std.proofs.Common.{◌≡◌, ◌≢◌, ◌⊎◌, ◌∙◌, ℕ, List, [], Option, None, Some, inl, inr, refl, sym, ap, subst}
 use Rattle.textarea_disk.specs.Disk.{Content, File, everything, nothing, Entries, Disk, Leaves, MayLeave, seen, with_entries, with_entry, with_file, with_new_file, changed_at, changed_file}
 use Rattle.textarea_disk.specs.Plan.{steps_of}
 use Rattle.textarea_disk.specs.Save.{Save, saved, created_at, grown_file, written, with_mode, synced, unsynced, after_step, after, AtEachPoint, AtEachFailure, LeavesOnly, LeavesOldOrNew, LeavesWholeText, HasBytes, HasFile, CanBegin, IsWhole}
-use Rattle.textarea_disk.specs.declared.step.DiskStep.TheVariants.{Create, Write, SetMode, Sync, SyncFolder, Rename, Remove}
+use Rattle.textarea_disk.specs.declared.step.DiskStep.TheVariants.{Create, SyncFolder, Rename, Remove}
 use Rattle.textarea_disk.specs.declared.step.SaveFile.TheVariants as place
 use Rattle.textarea_disk.specs.declared.step.SavePlan.{SavePlan}
 use Rattle.textarea_disk.specs.declared.step.SavePlan.TheVariants.{Beside, InPlace}
@@ -140,14 +140,6 @@ settled_whole save old m disk b =
     }
 
 -- ---- a save beside
-
--- the disks after the steps of both plans, up to the copy's sync
-pub begun_beside : (save : Save) (disk : Disk) → CanBegin Beside save disk → Begun save disk disk.count (whole_copy save) (after save (Create ∷ Write place.Copy ∷ SetMode place.Copy ∷ Sync place.Copy ∷ []) disk)
-begun_beside save disk b =
-    let b1 = begun_created Beside save disk b in
-    let b2 = begun_changed save disk disk.count (new_copy save) _ (written save.text) b1 in
-    let b3 = begun_changed save disk disk.count (written save.text (new_copy save)) _ (with_mode save.mode) b2 in
-    begun_changed save disk disk.count (with_mode save.mode (written save.text (new_copy save))) _ synced b3
 
 -- what is under the file's name after all steps, at each point, and after a failure at each step
 beside : (save : Save) (disk : Disk) (bytes : List ℕ) → CanBegin Beside save disk →

@@ -9,10 +9,12 @@ use Rattle.textarea_document.specs.Changes.{changed_by, column_from, width_in}
 use Rattle.textarea_document.specs.Prelude.{Symbol, joined, lines, Place, IsPlace, end, index_of, line_of, Fits, Splice, applied, inverse, times, Log, undone_log, redone_log, newest, next}
 use Rattle.textarea_document.specs.Prelude.{ChangeUnit, Characters, Bytes, Utf16, ChangeView, LoggedChanges, ChangesLead, change_of, changed_by_all, line_changes, place_from_unit, place_in_unit}
 use Rattle.textarea_document.specs.Prelude.{splice_changes, unit_count, whole_change, with_more}
-use Rattle.textarea_document.specs.Prelude.{AtomicRange, PastRanges, DocumentState, after_change, after_redo_by, after_undo_by, changes_taken, edit_redone, edit_undone, lines_replaced, with_changes_after, IsSoundInside}
+use Rattle.textarea_document.specs.Prelude.{AtomicRange, PastRanges, DocumentState, after_change, after_redo_by, after_undo_by, changes_taken, edit_redone, edit_undone, lines_replaced, with_changes_after, IsSound, IsSoundInside}
+use Rattle.textarea_document.specs.Prelude.{after_redo, after_undo, layout_at_once, lines_numbered, made_at_once, newest_group, next_group, text_and_layout, times_at_once, wrapped_at_once}
 use Rattle.textarea_text.proofs.TextPlaces.{IsPlace-end, index_of-end, joined-lines}
 use Rattle.textarea_text.proofs.StringRows.{changed_by_none, occurs_until}
-use Rattle.textarea_document.proofs.Sounds.{inside_redone, inside_undone, inside_times, newest_fits, next_fits, start_is_place}
+use Rattle.textarea_document.proofs.Layouts.{IsRelaid, redo_relaid, undo_relaid}
+use Rattle.textarea_document.proofs.Sounds.{inside_redone, inside_undone, inside_times, newest_fits, next_fits, sound_inside, start_is_place}
 
 -- ---- columns in units
 
@@ -177,17 +179,29 @@ redone_leads document h = by (next document.log) refl
     by None e = no_change_leads document document refl refl
     by (Some splice) e = change_leads document splice (redone_log document.log splice) (after_redo_by (Some splice) document).ranges document.past_ranges (next_fits document splice h.log e)
 
-pub undos_lead : (count : ℕ) (document : DocumentState) → IsSoundInside document → ChangesLead document (times count edit_undone document)
+undos_lead : (count : ℕ) (document : DocumentState) → IsSoundInside document → ChangesLead document (times count edit_undone document)
 undos_lead zero document h = no_change_leads document document refl refl
 undos_lead (suc count) document h =
     leads_on document (times count edit_undone document) (times (suc count) edit_undone document) (undos_lead count document h)
     (undone_leads (times count edit_undone document) (inside_times edit_undone inside_undone count document h))
 
-pub redos_lead : (count : ℕ) (document : DocumentState) → IsSoundInside document → ChangesLead document (times count edit_redone document)
+redos_lead : (count : ℕ) (document : DocumentState) → IsSoundInside document → ChangesLead document (times count edit_redone document)
 redos_lead zero document h = no_change_leads document document refl refl
 redos_lead (suc count) document h =
     leads_on document (times count edit_redone document) (times (suc count) edit_redone document) (redos_lead count document h)
     (redone_leads (times count edit_redone document) (inside_times edit_redone inside_redone count document h))
+
+-- whatever the layout
+leads_as : (old new other : DocumentState) → IsRelaid other new → ChangesLead old new → ChangesLead old other
+leads_as old new other same h = subst (ChangesLead old) (sym same) (record { more = h.more; changes = h.changes; leads = h.leads; none = h.none })
+
+pub undo_leads : (document : DocumentState) → IsSound document → ChangesLead document (after_undo document)
+undo_leads document h =
+    leads_as document (times (newest_group document.log) edit_undone document) (after_undo document) (undo_relaid document) (undos_lead (newest_group document.log) document (sound_inside document h))
+
+pub redo_leads : (document : DocumentState) → IsSound document → ChangesLead document (after_redo document)
+redo_leads document h =
+    leads_as document (times (next_group document.log) edit_redone document) (after_redo document) (redo_relaid document) (redos_lead (next_group document.log) document (sound_inside document h))
 
 -- ---- steps in a draft, whose log begins empty
 
@@ -228,10 +242,42 @@ times_after step one (suc count) before document same =
 taken_before : (document : DocumentState) → with_changes_after document.changes (changes_taken document) ≡ document
 taken_before document = ap (λ (made : List ChangeView). record document { changes = record document.changes { made = made } }) (append-nil document.changes.made)
 
-pub undone_in_draft : (count : ℕ) (document : DocumentState) → with_changes_after document.changes (times count edit_undone (changes_taken document)) ≡ times count edit_undone document
-undone_in_draft count document =
-    sym (times_after edit_undone undone_after count document.changes (changes_taken document) refl).0 ∙ ap (times count edit_undone) (taken_before document)
+-- several steps in a draft with numbered lines, put into the document
+module _ (step : DocumentState → DocumentState) (one : (before : LoggedChanges) (document : DocumentState) → document.changes.unit ≡ before.unit → StepsAfter step before document) where
+  in_draft : (count : ℕ) (document : DocumentState) → with_changes_after document.changes (times count step (changes_taken document)) ≡ times count step document
+  in_draft count document = sym (times_after step one count document.changes (changes_taken document) refl).0 ∙ ap (times count step) (taken_before document)
 
-pub redone_in_draft : (count : ℕ) (document : DocumentState) → with_changes_after document.changes (times count edit_redone (changes_taken document)) ≡ times count edit_redone document
-redone_in_draft count document =
-    sym (times_after edit_redone redone_after count document.changes (changes_taken document) refl).0 ∙ ap (times count edit_redone) (taken_before document)
+  -- its text and layout are those of the steps
+  laid_in_draft : (count : ℕ) (document : DocumentState) → text_and_layout (times count step (changes_taken (lines_numbered document))) ≡ text_and_layout (times count step (lines_numbered document))
+  laid_in_draft count document = ap text_and_layout (in_draft count (lines_numbered document))
+
+  put_from_draft : (count : ℕ) (document : DocumentState) → nat_lt 1 count ≡ true →
+      with_changes_after document.changes (wrapped_at_once document (times count step (changes_taken (lines_numbered document)))) ≡ times_at_once count step document
+  unfolding layout_at_once
+  put_from_draft count document several =
+      ap (wrapped_at_once document) (in_draft count (lines_numbered document))
+      ∙ ap (λ (b : Bool). if b then made_at_once (times count step) document else times count step document) (sym several)
+
+-- a group is undone
+pub put_undone : (document draft : DocumentState) (count : ℕ) → draft ≡ times count edit_undone (changes_taken (lines_numbered document)) → count ≡ newest_group document.log → 1 < count →
+    with_changes_after document.changes (wrapped_at_once document draft) ≡ after_undo document
+put_undone document draft count is all several =
+    ap (λ (d : DocumentState). with_changes_after document.changes (wrapped_at_once document d)) is
+    ∙ put_from_draft edit_undone undone_after count document (grind (arith, nat_tests))
+    ∙ ap (λ n. times_at_once n edit_undone document) all
+
+pub laid_undone : (document draft : DocumentState) (count : ℕ) → draft ≡ times count edit_undone (changes_taken (lines_numbered document)) →
+    text_and_layout draft ≡ text_and_layout (times count edit_undone (lines_numbered document))
+laid_undone document draft count is = ap text_and_layout is ∙ laid_in_draft edit_undone undone_after count document
+
+-- a group is redone
+pub put_redone : (document draft : DocumentState) (count : ℕ) → draft ≡ times count edit_redone (changes_taken (lines_numbered document)) → count ≡ next_group document.log → 1 < count →
+    with_changes_after document.changes (wrapped_at_once document draft) ≡ after_redo document
+put_redone document draft count is all several =
+    ap (λ (d : DocumentState). with_changes_after document.changes (wrapped_at_once document d)) is
+    ∙ put_from_draft edit_redone redone_after count document (grind (arith, nat_tests))
+    ∙ ap (λ n. times_at_once n edit_redone document) all
+
+pub laid_redone : (document draft : DocumentState) (count : ℕ) → draft ≡ times count edit_redone (changes_taken (lines_numbered document)) →
+    text_and_layout draft ≡ text_and_layout (times count edit_redone (lines_numbered document))
+laid_redone document draft count is = ap text_and_layout is ∙ laid_in_draft edit_redone redone_after count document

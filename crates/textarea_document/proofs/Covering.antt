@@ -8,6 +8,7 @@ use Rattle.textarea_document.specs.Covered.{CoversNoMore, covered, covered_befor
 use Rattle.textarea_document.specs.Prelude.{AllBefore, AreValid, AtomicRange, DocumentState, Fits, IsRangeOfLine, IsSound, IsSoundInside, IsValidList, Splice, Symbol, applied, inverse, lines, moved_ranges}
 use Rattle.textarea_document.specs.Prelude.{after_edit, after_redo, after_redo_by, after_undo, after_undo_by, edit_redone, edit_undone, newest, newest_group, next, next_group, ranges_before_newest}
 use Rattle.textarea_document.specs.Prelude.{ranges_before_next, ranges_or, texts_before, times}
+use Rattle.textarea_document.proofs.Layouts.{redo_relaid, undo_relaid}
 use Rattle.textarea_document.proofs.PastRanges.{edited_has, newest_has, next_has, texts_before-redone, texts_before-undone}
 use Rattle.textarea_document.proofs.RangesOverSplices.{from_moved}
 use Rattle.textarea_document.proofs.Sounds.{inside_redone, inside_times, inside_undone, logged_sound, newest_fits, next_fits, next_ranges_valid, sound_inside}
@@ -132,7 +133,9 @@ covers_times step sound one (suc count) document h =
     λ characters stored. covers_times step sound one count document h characters (one (times count step document) (inside_times step sound count document h) characters stored)
 
 pub undo_covers : (document : DocumentState) → IsSound document → CoversNoMore document (after_undo document)
-undo_covers document h = covers_times edit_undone inside_undone undo_covers_once (newest_group document.log) document (sound_inside document h)
+undo_covers document h =
+    subst (CoversNoMore document) (sym (undo_relaid document)) (covers_times edit_undone inside_undone undo_covers_once (newest_group document.log) document (sound_inside document h))
 
 pub redo_covers : (document : DocumentState) → IsSound document → CoversNoMore document (after_redo document)
-redo_covers document h = covers_times edit_redone inside_redone redo_covers_once (next_group document.log) document (sound_inside document h)
+redo_covers document h =
+    subst (CoversNoMore document) (sym (redo_relaid document)) (covers_times edit_redone inside_redone redo_covers_once (next_group document.log) document (sound_inside document h))

@@ -1,11 +1,11 @@
 -- The lines that the edits of a document wrap, given those that each splice of a text wraps.
 use Rattle.std.proofs.Common.{ℕ, Bool, refl, subst}
 use Rattle.textarea_document.specs.Prelude.{Splice, Fits, WrapsForSplice, WrapsForSettings, WrapsForWidth, TextAndLayout, applied_to, at_width, with_settings, LayoutSettings}
-use Rattle.textarea_document.specs.Prelude.{WrapsBySettings, WrapsByWidth, SplicedBy, SplicesBy, newest_group, next_group, redo_splices, undo_splices, HasEffect}
-use Rattle.textarea_document.specs.Prelude.{EditStep, splice_of_step, stepped, after_change, after_edit, after_redo, after_undo, text_and_layout, with_inner_width}
+use Rattle.textarea_document.specs.Prelude.{WrapsBySettings, WrapsByWidth, SplicedBy, SplicesBy, HasEffect}
+use Rattle.textarea_document.specs.Prelude.{EditStep, splice_of_step, stepped, after_change, after_edit, text_and_layout, with_inner_width}
 use Rattle.textarea_document.specs.Prelude.{with_layout_settings, IsSound, DocumentState}
-use Rattle.textarea_document.proofs.Sounds.{layout_with_settings, sound_inside}
-use Rattle.textarea_document.proofs.UndoGroups.{GoesOn, over_redos, over_undos}
+use Rattle.textarea_document.proofs.Sounds.{layout_with_settings}
+use Rattle.textarea_document.proofs.UndoGroups.{GoesOn}
 use Rattle.textarea_document.proofs.StepLaw.{step_keeps}
 
 abbrev pub SplicesWrap : Type 0
@@ -19,14 +19,8 @@ pub step_wraps : SplicesWrap → (document : DocumentState) (step : EditStep) (t
 step_wraps cut document step typed now sound made = cut (text_and_layout document) (splice_of_step document step) (step_keeps document step sound made).0
 
 -- the edits are undone or redone one after another
-wraps_on : SplicesWrap → GoesOn SplicedBy
+pub wraps_on : SplicesWrap → GoesOn SplicedBy
 wraps_on cut document splice log ranges rest new fits moved later = (text_and_layout (after_change document splice log), cut (text_and_layout document) splice fits, later)
-
-pub undo_wraps : SplicesWrap → (document : DocumentState) → IsSound document → SplicedBy document (undo_splices document) (after_undo document)
-undo_wraps cut document h = over_undos SplicedBy (λ d. refl) (wraps_on cut) (newest_group document.log) document (sound_inside document h)
-
-pub redo_wraps : SplicesWrap → (document : DocumentState) → IsSound document → SplicedBy document (redo_splices document) (after_redo document)
-redo_wraps cut document h = over_redos SplicedBy (λ d. refl) (wraps_on cut) (next_group document.log) document (sound_inside document h)
 
 pub width_wraps : ((text_layout : TextAndLayout) (inner_width : ℕ) → WrapsForWidth text_layout (with_settings text_layout (at_width text_layout inner_width))) →
     (document : DocumentState) (inner_width : ℕ) → WrapsByWidth document (with_inner_width document inner_width)

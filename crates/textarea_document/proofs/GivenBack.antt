@@ -8,6 +8,7 @@ use Rattle.textarea_document.specs.DocumentLaw.{RemembersBefore, ranges_before_g
 use Rattle.textarea_document.specs.Prelude.{AllBefore, AtomicRange, DocumentState, Fits, IsSound, IsSoundInside, IsValidList, Log, PastRanges, Splice, Symbol, after_edit, after_undo, after_undo_by}
 use Rattle.textarea_document.specs.Prelude.{applied, appended_log, edit_undone, group_forgotten, inverse, is_outgrown, joined_log, joins}
 use Rattle.textarea_document.specs.Prelude.{moved_ranges, newest, newest_group, ranges_or, ranges_to_remember, recorded, texts_ahead, texts_back, texts_before, times, with_newest}
+use Rattle.textarea_document.proofs.Layouts.{undo_relaid}
 use Rattle.textarea_document.proofs.Sounds.{sound_edited, sound_inside}
 use Rattle.textarea_document.proofs.UndoGroups.{are_undone}
 
@@ -65,7 +66,8 @@ given_back count document ranges h is =
 pub group_given_back : (document : DocumentState) (ranges : List AtomicRange) → IsSound document → ranges_before_group document ≡ Some ranges → (after_undo document).ranges ≡ ranges
 group_given_back document ranges h is =
     let count : newest_group document.log ≡ suc (newest_group document.log - 1) = omega arith in
-    ap (λ (n : ℕ). (times n edit_undone document).ranges) count
+    ap (λ (d : DocumentState). d.ranges) (undo_relaid document)
+    ∙ ap (λ (n : ℕ). (times n edit_undone document).ranges) count
     ∙ given_back (newest_group document.log - 1) document ranges (sound_inside document h) is
 
 -- ---- an edit

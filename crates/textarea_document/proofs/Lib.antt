@@ -1,5 +1,8 @@
 pub mod SymbolAfters
 pub mod Inserts
+pub mod Layouts
+pub mod WrapsOnce
+pub mod AtOnce
 pub mod UndoGroups
 pub mod UndoLaw
 pub mod Orders

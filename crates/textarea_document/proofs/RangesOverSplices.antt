@@ -1,12 +1,13 @@
 -- How the atomic ranges of a document move with its text, over one splice after another.
 use Rattle.std.proofs.Common.{◌≡◌, ℕ, zero, suc, Bool, true, false, List, [], ◌∷◌, ◌++◌, get_or, filter_map, Contains, Option, None, Some, sym, ap, refl, subst, ◌∙◌, arith, inl, inr, ◌⊎◌, suc-le-suc}
 use Rattle.std.proofs.lemmas.List.Elements.{All-cons, All-contains, All-nil, Contains-get_or}
-use Rattle.textarea_document.specs.Prelude.{newest_group, next_group, redo_splices, undo_splices, cons_option, Symbol, lines, Place, end, CanApply}
+use Rattle.textarea_document.specs.Prelude.{edit_redone, edit_undone, newest_group, next_group, redo_splices, times, undo_splices, cons_option, Symbol, lines, Place, end, CanApply}
 use Rattle.textarea_document.specs.Prelude.{Fits, Splice, IsTextBefore, applied, applied_all, AtomicRange, IsBeside, IsInside, TakesRange, CoversTheSame, DisturbsBy}
 use Rattle.textarea_document.specs.Prelude.{moved_range, moved_ranges, AreValid, IsRangeOfLine, HasEffect, EditStep, splice_of_step, stepped, AllStayOrAreDropped, AllStemFrom, SplitNoRange}
 use Rattle.textarea_document.specs.Prelude.{RangesFollowPast, RangesFollowSplices, RangesStayWhole, IsDroppedBy, StemsFrom, carried_range, ranges_over, SplitsNoRange, SplitsNoRangeBy, after_redo}
 use Rattle.textarea_document.specs.Prelude.{after_undo, IsSound, DocumentState, after_edit}
 use Rattle.textarea_ranges.proofs.Moving.{covers_the_same, dropped, valid_moved}
+use Rattle.textarea_document.proofs.Layouts.{IsRelaid, redo_relaid, undo_relaid}
 use Rattle.textarea_document.proofs.Sounds.{sound_inside}
 use Rattle.textarea_document.proofs.UndoGroups.{GoesOn, over_redos, over_undos}
 use Rattle.textarea_document.proofs.StepLaw.{step_keeps}
@@ -30,7 +31,7 @@ ranges_follow_step document step typed now sound made =
 
 -- ---- one after another
 
-CanApply-append : (text : List Symbol) (first second : List Splice) → CanApply text first → CanApply (applied_all text first) second → CanApply text (first ++ second)
+pub CanApply-append : (text : List Symbol) (first second : List Splice) → CanApply text first → CanApply (applied_all text first) second → CanApply text (first ++ second)
 CanApply-append text [] second h k = k
 CanApply-append text (splice ∷ first) second h k = (h.0, CanApply-append (applied text splice) first second h.1 k)
 
@@ -80,11 +81,19 @@ more_follow document splice log ranges rest new fits moved later = record {
   ranges = λ none. later.ranges none ∙ ap (λ (r : List AtomicRange). ranges_over r rest) (moved none);
 }
 
+-- whatever the layout
+follows_as : (old new other : DocumentState) (splices : List Splice) → IsRelaid other new → RangesFollowPast old splices new → RangesFollowPast old splices other
+follows_as old new other splices same h = subst (RangesFollowPast old splices) (sym same) (record { text = h.text; ranges = h.ranges })
+
 pub ranges_follow_undo : (document : DocumentState) → IsSound document → RangesFollowPast document (undo_splices document) (after_undo document)
-ranges_follow_undo document h = over_undos RangesFollowPast nothing_follows more_follow (newest_group document.log) document (sound_inside document h)
+ranges_follow_undo document h =
+    follows_as document (times (newest_group document.log) edit_undone document) (after_undo document) (undo_splices document) (undo_relaid document)
+    (over_undos RangesFollowPast nothing_follows more_follow (newest_group document.log) document (sound_inside document h))
 
 pub ranges_follow_redo : (document : DocumentState) → IsSound document → RangesFollowPast document (redo_splices document) (after_redo document)
-ranges_follow_redo document h = over_redos RangesFollowPast nothing_follows more_follow (next_group document.log) document (sound_inside document h)
+ranges_follow_redo document h =
+    follows_as document (times (next_group document.log) edit_redone document) (after_redo document) (redo_splices document) (redo_relaid document)
+    (over_redos RangesFollowPast nothing_follows more_follow (next_group document.log) document (sound_inside document h))
 
 -- if no ranges are remembered, they follow as over other splices
 pub follows_unless_remembered : (old new : DocumentState) (splices : List Splice) → old.past_ranges.before ≡ [] → RangesFollowPast old splices new → RangesFollowSplices old splices new

@@ -18,6 +18,7 @@ use Rattle.textarea_document.specs.Prelude.{AtomicRange, DocumentState, Fits, Is
 use Rattle.textarea_document.specs.Prelude.{insertion, moved_out, moved_range, moved_ranges, place_after, place_before, range_around, range_end, range_start, removal, symbols_between, symbols_inserted, group_ended}
 use Rattle.textarea_document.specs.ReplacedText.{AreReplaceable, AreStretches, IsOutside, with_replaced}
 use Rattle.textarea_document.specs.Replacing.{ahead_replaced, all_replaced, begun, begun_at_start, each_replaced, ended_after, place_ahead, stretch_removed, stretch_replaced}
+use Rattle.textarea_document.proofs.Layouts.{all_relaid}
 use Rattle.textarea_document.proofs.Sounds.{sound_begun, sound_edited, sound_otherwise, start_is_place}
 
 -- ---- a position that is strictly inside no range stays outside of all after a splice
@@ -328,5 +329,6 @@ replaced_text document [] symbols now h are = refl
 replaced_text document (stretch ∷ rest) symbols now h are =
     let stretches = stretch ∷ rest in
     let start = begun_at_start document in
-    ended_text document (each_replaced start 0 stretches symbols now)
+    ap (λ (d : DocumentState). d.text) (all_relaid document stretch rest symbols now)
+    ∙ ended_text document (each_replaced start 0 stretches symbols now)
     ∙ each_text start [] document.text 0 stretches symbols now (sound_moved (begun document) (0, 0) (sound_begun document h) (start_is_place document.text)) refl refl are

@@ -1,9 +1,9 @@
 -- Two positions in the order of the text, and stretches that are replaced.
 use Rattle.std.proofs.Common.{◌≡◌, ◌≤◌, ◌==◌, ℕ, Bool, true, false, cond, List, [], ◌∷◌, length, arith, refl}
 use Rattle.std.proofs.lemmas.Bool.Decides.{nat_tests}
-use Rattle.textarea_document.specs.Prelude.{Symbol, Place, IsPlace, IsUpTo, index_of, is_before}
+use Rattle.textarea_document.specs.Prelude.{Symbol, Place, IsPlace, IsUpTo, index_of, is_before, made_at_once}
 use Rattle.textarea_document.specs.DocumentState.{DocumentState}
-use Rattle.textarea_document.specs.Replacing.{all_replaced, begun_at_start, each_replaced, ended_after, first_place, last_place}
+use Rattle.textarea_document.specs.Replacing.{all_replaced, first_place, last_place, replaced_in_turn}
 use Rattle.textarea_document.proofs.Orders.{index_before}
 use Rattle.textarea_document.proofs.Ranges.{index_from_up_to}
 
@@ -30,7 +30,7 @@ ends_in_order text one other h k = by (is_before other one) refl
 
 -- where there are stretches, they are replaced in a group
 pub some_replaced : (document : DocumentState) (stretches : List (ℕ × ℕ)) (symbols : List Symbol) (now : ℕ) → (length stretches == 0) ≡ false →
-    ended_after document (each_replaced (begun_at_start document) 0 stretches symbols now) ≡ all_replaced document stretches symbols now
+    made_at_once (λ copy. replaced_in_turn copy stretches symbols now) document ≡ all_replaced document stretches symbols now
 unfolding all_replaced
 some_replaced document [] symbols now some = absurd cc
 some_replaced document (stretch ∷ rest) symbols now some = refl

@@ -7,7 +7,7 @@ use Rattle.textarea_history.specs.declared.history.groups.Group.TheVariants.{Clo
 use Rattle.textarea_document.specs.Prelude.{IfSome, OnErr, OnOk, Symbol, lines, Place, IsPlace, Splice, Fits, applied, inverse, place_after, Log, empty_log, redone_log, newest}
 use Rattle.textarea_document.specs.Prelude.{next, recorded, undone_log, AtomicRange, moved_ranges, LayoutSettings, TextAndLayout, Layout, applied_to, layout_from_scratch, with_settings}
 use Rattle.textarea_document.specs.Prelude.{DocumentState, document_of, fresh_document, logged, after_change, after_edit, after_redo_by, after_undo_by}
-use Rattle.textarea_document.specs.Prelude.{edit_redone, edit_undone, is_grouped, times, text_and_layout, with_layout_settings, IsSound, IsSoundInside}
+use Rattle.textarea_document.specs.Prelude.{edit_redone, edit_undone, is_grouped, layout_at_once, lines_numbered, numbered, times, wrapped_at_once, wrapped_once, text_and_layout, with_layout_settings, IsSound, IsSoundInside}
 use Rattle.textarea_text.proofs.TextPlaces.{IsPlace-end, takes_back}
 use Rattle.textarea_history.specs.HistoryLaw.{IsSoundLog as LogIsSound}
 use Rattle.textarea_history.proofs.LogLaws.{each_fits, newest_back, recorded_whole, sound_redone_by, sound_undone_by, sound_edited as log_edited}
@@ -78,6 +78,13 @@ pub copy_is : (text_layout new : TextAndLayout) (cursor : Place) (anchor : Optio
 copy_is text_layout new cursor anchor ranges stored log left changes none past kept layout_is stored_is log_is none_is kept_is =
     rw (layout_is, stored_is, log_is, none_is, kept_is) refl
 
+-- copied parts with numbered lines make the document with its lines numbered
+pub numbered_is : (text_layout new : TextAndLayout) (cursor : Place) (anchor : Option Place) (ranges stored : List AtomicRange) (log left : Log) (changes copied : LoggedChanges) (past kept : PastRanges) →
+    new ≡ numbered text_layout → stored ≡ ranges → left ≡ log → copied ≡ changes → kept ≡ past →
+    document_of new cursor anchor stored left copied kept ≡ lines_numbered (document_of text_layout cursor anchor ranges log changes past)
+numbered_is text_layout new cursor anchor ranges stored log left changes copied past kept layout_is stored_is log_is copied_is kept_is =
+    rw (layout_is, stored_is, log_is, copied_is, kept_is) refl
+
 -- the layout, the changes, a run of typing and an open group have no influence on the invariant, and the cursor and the anchor may be any positions
 pub sound_otherwise : (document : DocumentState) (layout : Layout) (cursor : Place) (anchor : Option Place) (run_open : Bool) (group : Group) (changes : LoggedChanges) → IsSound document →
     IsPlace document.text cursor → IfSome anchor (IsPlace document.text) →
@@ -100,6 +107,18 @@ resound document layout h = sound_otherwise document layout document.cursor docu
 
 pub sound_changes : (document : DocumentState) (changes : LoggedChanges) → IsSound document → IsSound (record document { changes = changes })
 sound_changes document changes h = sound_otherwise document document.layout document.cursor document.anchor document.log.run_open document.log.group changes h h.cursor h.anchor
+
+-- the parts of a copy, with its lines wrapped at the end, make the document that wraps at once
+pub wrapped_is : (old copy : DocumentState) (wrapped : TextAndLayout) (changes : LoggedChanges) → wrapped ≡ wrapped_once (text_and_layout old) (text_and_layout copy) →
+    document_of wrapped copy.cursor copy.anchor copy.ranges copy.log changes copy.past_ranges ≡ record (wrapped_at_once old copy) { changes = changes }
+unfolding layout_at_once
+wrapped_is old copy wrapped changes is = ap (λ (t : TextAndLayout). document_of t copy.cursor copy.anchor copy.ranges copy.log changes copy.past_ranges) is
+
+pub sound_wrapped : (old copy : DocumentState) (wrapped : TextAndLayout) (changes : LoggedChanges) → wrapped ≡ wrapped_once (text_and_layout old) (text_and_layout copy) → IsSound copy →
+    IsSound (document_of wrapped copy.cursor copy.anchor copy.ranges copy.log changes copy.past_ranges)
+sound_wrapped old copy wrapped changes is h =
+    subst IsSound (sym (wrapped_is old copy wrapped changes is))
+    (sound_otherwise copy (wrapped_at_once old copy).layout copy.cursor copy.anchor copy.log.run_open copy.log.group changes h h.cursor h.anchor)
 
 -- other ranges are remembered
 pub sound_past : (document : DocumentState) (past : PastRanges) → IsSound document → ArePastRanges (texts_before document.text document.log.done document.log.undone) past → IsSound (record document { past_ranges = past })

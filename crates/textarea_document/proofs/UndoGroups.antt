@@ -2,6 +2,7 @@
 use Rattle.std.proofs.Common.{◌≡◌, ◌∙◌, ℕ, zero, suc, ◌+◌, ◌-◌, ◌≤◌, ◌<◌, Bool, false, List, [], ◌∷◌, length, map, reverse, take, drop, get_or, Option, Some, None, slice_get, is_some, true, sym, ap, refl, subst, arith}
 use Rattle.std.proofs.lemmas.List.{drop_all, length-append, length-drop, length-take-le, nil_from_length}
 use Rattle.textarea_document.specs.Prelude.{Splice, DocumentState, after_redo, after_redo_by, after_undo, after_undo_by, edit_redone, edit_undone, group_count, grouped_before, grouped_first}
+use Rattle.textarea_document.proofs.Layouts.{IsRelaid, redo_ignores, redo_relaid, redone_ignores, relaid_over, times_ignore, undo_relaid, undone_ignores}
 use Rattle.textarea_document.specs.Prelude.{AtomicRange, moved_ranges, ranges_or, is_grouped, newest, newest_group, next, next_group, times, IsSound, IsSoundInside, Fits, Log, after_change, inverse, redone_log, undone_log}
 use Rattle.textarea_history.proofs.Groups.{before_within, first_ends, first_none, first_within, group_again, group_begins, group_less}
 use Rattle.textarea_history.proofs.LogLaws.{first_split, newest_some, reverse_last, times-front}
@@ -45,6 +46,11 @@ pub record AreUndone (count : ℕ) (old new : DocumentState) : Type 0 where
   pub undone : length new.log.undone ≡ length old.log.undone + count
   pub marks : new.log.marks ≡ old.log.marks
 
+-- whatever the layout
+undone_as : (count : ℕ) (old new other : DocumentState) → IsRelaid other new → AreUndone count old new → AreUndone count old other
+undone_as count old new other same h =
+    subst (AreUndone count old) (sym same) (record { done = h.done; undone = h.undone; marks = h.marks })
+
 pub are_undone : (count : ℕ) (document : DocumentState) → count ≤ length document.log.done → AreUndone count document (times count edit_undone document)
 are_undone zero document within = record { done = omega arith; undone = omega arith; marks = refl }
 are_undone (suc count) document within =
@@ -57,6 +63,12 @@ are_undone (suc count) document within =
       undone = omega (arith, rest.undone);
       marks = rest.marks;
     })
+
+-- an undo leaves as much
+pub group_undone : (document : DocumentState) → newest_group document.log ≤ length document.log.done → AreUndone (newest_group document.log) document (after_undo document)
+group_undone document within =
+    undone_as (newest_group document.log) document (times (newest_group document.log) edit_undone document) (after_undo document) (undo_relaid document)
+    (are_undone (newest_group document.log) document within)
 
 pub record AreRedone (count : ℕ) (old new : DocumentState) : Type 0 where
   pub done : length new.log.done ≡ length old.log.done + count
@@ -82,28 +94,29 @@ are_redone (suc count) document within =
 
 -- ---- groups
 
--- `count` undos of groups are undos of so many edits, and the same redos redo them
+-- but for their layouts, `count` undos of groups are undos of so many edits, and the same redos redo them
 pub record GroupsUndone (count : ℕ) (document : DocumentState) : Type 0 where
   pub edits : ℕ
   pub within : edits ≤ length document.log.done
   pub some : count ≤ edits
-  pub undone : times count after_undo document ≡ times edits edit_undone document
+  pub undone : IsRelaid (times count after_undo document) (times edits edit_undone document)
   pub groups : group_count document.log.marks (length document.log.done - edits) + count ≡ group_count document.log.marks (length document.log.done)
-  pub redone : (left : DocumentState) → left.log.marks ≡ document.log.marks → length left.log.done ≡ length document.log.done - edits → edits ≤ length left.log.undone → times count after_redo left ≡ times edits edit_redone left
+  pub redone : (left : DocumentState) → left.log.marks ≡ document.log.marks → length left.log.done ≡ length document.log.done - edits → edits ≤ length left.log.undone → IsRelaid (times count after_redo left) (times edits edit_redone left)
 
 -- the group of a document whose last done edit has the index `last`
 pub record NewestUndone (last : ℕ) (document : DocumentState) : Type 0 where
   pub sizes : AreUndone (suc (grouped_before document.log.marks last)) document (after_undo document)
   pub start : length (after_undo document).log.done ≡ last - grouped_before document.log.marks last
-  pub is : after_undo document ≡ times (suc (grouped_before document.log.marks last)) edit_undone document
+  pub is : IsRelaid (after_undo document) (times (suc (grouped_before document.log.marks last)) edit_undone document)
 
 pub newest_undone : (last : ℕ) (document : DocumentState) → length document.log.done ≡ suc last → NewestUndone last document
 newest_undone last document e =
     let marks = document.log.marks in
     let at : length document.log.done - 1 ≡ last = omega (arith, e) in
-    let is : after_undo document ≡ times (suc (grouped_before marks last)) edit_undone document = ap (λ i. times (suc (grouped_before marks i)) edit_undone document) at in
+    let edits = suc (grouped_before marks last) in
+    let is : IsRelaid (after_undo document) (times edits edit_undone document) = subst (λ i. IsRelaid (after_undo document) (times (suc (grouped_before marks i)) edit_undone document)) at (undo_relaid document) in
     let inner = before_within marks last in
-    let sizes = subst (AreUndone (suc (grouped_before marks last)) document) (sym is) (are_undone (suc (grouped_before marks last)) document (omega (arith, e, inner))) in
+    let sizes = undone_as edits document (times edits edit_undone document) (after_undo document) is (are_undone edits document (omega (arith, e, inner))) in
     record { sizes = sizes; start = omega (arith, sizes.done, e, inner); is = is }
 
 -- the group that is redone after it
@@ -153,15 +166,25 @@ groups_undone (suc count) document whole within = by (length document.log.done) 
           edits = edits;
           within = sized;
           some = omega (arith, rest.some);
-          undone = times-front count after_undo document ∙ rest.undone ∙ ap (times rest.edits edit_undone) newest.is ∙ times-add rest.edits (suc before) edit_undone document;
+          undone =
+              let one = times (suc before) edit_undone document in
+              let further : IsRelaid (times count after_undo first) (times rest.edits edit_undone one) =
+              relaid_over (times count after_undo first) (times rest.edits edit_undone first) (times rest.edits edit_undone one) rest.undone (times_ignore edit_undone undone_ignores rest.edits first one newest.is) in
+              subst (λ (d : DocumentState). IsRelaid d (times edits edit_undone document)) (sym (times-front count after_undo document))
+              (subst (IsRelaid (times count after_undo first)) (times-add rest.edits (suc before) edit_undone document) further);
           groups = omega (arith, counted, less, rest.groups, ap (λ (m : List Bool). group_count m (length first.log.done - rest.edits)) newest.sizes.marks, ap (group_count marks) left_at);
           redone = λ left same done few.
               let behind = times rest.edits edit_redone left in
               let sizes = are_redone rest.edits left (omega (arith, few)) in
-              let earlier : times count after_redo left ≡ behind = rest.redone left (same ∙ sym newest.sizes.marks) (done ∙ sym left_at) (omega (arith, few)) in
+              let earlier = rest.redone left (same ∙ sym newest.sizes.marks) (done ∙ sym left_at) (omega (arith, few)) in
               let group = next_is last document behind whole_last (sizes.marks ∙ same) (omega (arith, sizes.done, done, sized, newest.sizes.done, newest.start)) in
               let order : suc before + rest.edits ≡ edits = omega arith in
-              ap after_redo earlier ∙ ap (λ n. times n edit_redone behind) group ∙ times-add (suc before) rest.edits edit_redone left ∙ ap (λ n. times n edit_redone left) order;
+              let again : after_redo behind ≡ record (times edits edit_redone left) { layout = (after_redo behind).layout } =
+              redo_relaid behind
+              ∙ ap (λ (d : DocumentState). record d { layout = (after_redo behind).layout })
+              (ap (λ n. times n edit_redone behind) group ∙ times-add (suc before) rest.edits edit_redone left ∙ ap (λ n. times n edit_redone left) order) in
+              relaid_over (after_redo (times count after_redo left)) (after_redo behind) (times edits edit_redone left)
+              (redo_ignores (times count after_redo left) behind earlier) again;
         }
 
 -- ---- the invariant
@@ -173,7 +196,8 @@ undo_whole document h = by (length document.log.done) refl
     by zero e =
         let none : newest document.log ≡ None = ap (λ (d : List Splice). slice_get d (length d - 1)) (nil_from_length document.log.done e) in
         let same = (none_undone (newest_group document.log) document none).0 in
-        subst (λ (d : DocumentState). is_grouped d.log.marks (length d.log.done) ≡ false) (sym same) h.whole
+        ap (λ (d : DocumentState). is_grouped d.log.marks (length d.log.done)) (undo_relaid document)
+        ∙ subst (λ (d : DocumentState). is_grouped d.log.marks (length d.log.done) ≡ false) (sym same) h.whole
     by (suc last) e =
         let group = newest_undone last document e in
         ap (λ (m : List Bool). is_grouped m (length (after_undo document).log.done)) group.sizes.marks
@@ -187,27 +211,40 @@ redo_whole document h = by (length document.log.undone) refl
     by zero e =
         let none : next document.log ≡ None = ap (λ (u : List Splice). slice_get u 0) (nil_from_length document.log.undone e) in
         let same = (none_redone (next_group document.log) document none).0 in
-        subst (λ (d : DocumentState). is_grouped d.log.marks (length d.log.done) ≡ false) (sym same) h.whole
+        ap (λ (d : DocumentState). is_grouped d.log.marks (length d.log.done)) (redo_relaid document)
+        ∙ subst (λ (d : DocumentState). is_grouped d.log.marks (length d.log.done) ≡ false) (sym same) h.whole
     by (suc n) e =
         let marks = document.log.marks in
         let from = length document.log.done + 1 in
         let within = first_within (drop from marks) in
         let left = length-drop from marks in
         let sizes = are_redone (next_group document.log) document (omega (arith, within, left, h.marks, e)) in
-        let at : length (after_redo document).log.done ≡ suc (length document.log.done + grouped_first (drop from marks)) = omega (arith, sizes.done) in
+        let all = times (next_group document.log) edit_redone document in
+        let at : length all.log.done ≡ suc (length document.log.done + grouped_first (drop from marks)) = omega (arith, sizes.done) in
         let on : from + grouped_first (drop from marks) ≡ suc (length document.log.done + grouped_first (drop from marks)) = omega arith in
-        ap (λ (m : List Bool). is_grouped m (length (after_redo document).log.done)) sizes.marks
+        ap (λ (d : DocumentState). is_grouped d.log.marks (length d.log.done)) (redo_relaid document)
+        ∙ ap (λ (m : List Bool). is_grouped m (length all.log.done)) sizes.marks
         ∙ ap (is_grouped marks) at
         ∙ ap (λ k. get_or marks k false) (sym on)
         ∙ first_ends marks from
 
+-- whatever the layout
+inside_as : (one other : DocumentState) → IsRelaid one other → IsSoundInside other → IsSoundInside one
+inside_as one other same h = subst IsSoundInside (sym same) (record { cursor = h.cursor; anchor = h.anchor; ranges = h.ranges; in_order = h.in_order; log = h.log; past = h.past })
+
 pub sound_undo : (document : DocumentState) → IsSound document → IsSound (after_undo document)
 sound_undo document h =
-    sound_whole (after_undo document) (inside_times edit_undone inside_undone (newest_group document.log) document (sound_inside document h)) (undo_whole document h)
+    sound_whole (after_undo document)
+    (inside_as (after_undo document) (times (newest_group document.log) edit_undone document) (undo_relaid document)
+    (inside_times edit_undone inside_undone (newest_group document.log) document (sound_inside document h)))
+    (undo_whole document h)
 
 pub sound_redo : (document : DocumentState) → IsSound document → IsSound (after_redo document)
 sound_redo document h =
-    sound_whole (after_redo document) (inside_times edit_redone inside_redone (next_group document.log) document (sound_inside document h)) (redo_whole document h)
+    sound_whole (after_redo document)
+    (inside_as (after_redo document) (times (next_group document.log) edit_redone document) (redo_relaid document)
+    (inside_times edit_redone inside_redone (next_group document.log) document (sound_inside document h)))
+    (redo_whole document h)
 
 -- ---- a group of several edits
 

@@ -11,6 +11,7 @@ use Rattle.textarea_history.specs.Log.{redone as text_redone, redone_by as text_
 use Rattle.textarea_history.proofs.Joins.{joins_newest}
 use Rattle.textarea_history.proofs.Groups.{some_group}
 use Rattle.textarea_history.proofs.LogLaws.{next_again, gives_back as text_gives_back}
+use Rattle.textarea_document.proofs.Layouts.{IsRelaid, redo_ignores, redo_relaid, relaid_over, times_ignore, undo_relaid}
 use Rattle.textarea_document.proofs.Sounds.{logged_sound, sound_edited}
 use Rattle.textarea_document.proofs.UndoGroups.{are_undone, groups_undone, none_redone, none_undone}
 
@@ -39,7 +40,7 @@ abbrev group_undone : Logged → Logged
 group_undone all = times (newest_group all.log) text_undone all
 
 group_logged : (document : DocumentState) → logged (after_undo document) ≡ group_undone (logged document)
-group_logged document = logged_times edit_undone text_undone undone_logged (newest_group document.log) document
+group_logged document = ap logged (undo_relaid document) ∙ logged_times edit_undone text_undone undone_logged (newest_group document.log) document
 
 -- undos from documents with the same text and log give the same texts, wherever the cursors are
 pub undos_alike : (count : ℕ) (one other : DocumentState) → logged one ≡ logged other → (times count after_undo one).text ≡ (times count after_undo other).text
@@ -82,8 +83,10 @@ gives_back count document h within =
     let left = times groups.edits edit_undone document in
     let sizes = are_undone groups.edits document groups.within in
     let size : length document.log.done - groups.edits ≡ length left.log.done = omega (arith, sizes.done) in
-    let again : times count after_redo (times count after_undo document) ≡ times groups.edits edit_redone left =
-    ap (times count after_redo) groups.undone ∙ groups.redone left sizes.marks (sym size) (omega (arith, sizes.undone)) in
+    let all = times count after_undo document in
+    let again : IsRelaid (times count after_redo all) (times groups.edits edit_redone left) =
+    relaid_over (times count after_redo all) (times count after_redo left) (times groups.edits edit_redone left)
+    (times_ignore after_redo redo_ignores count all left groups.undone) (groups.redone left sizes.marks (sym size) (omega (arith, sizes.undone))) in
     let counted : done_groups left.log ≡ done_groups document.log - count =
     ap (λ (m : List Bool). group_count m (length left.log.done)) sizes.marks ∙ omega (arith, groups.groups, ap (group_count document.log.marks) size) in
     record {
@@ -152,8 +155,10 @@ given_back document splice h leaves at =
 
 none_given_back : (document : DocumentState) → newest document.log ≡ None → next document.log ≡ None → RestoresAll document
 none_given_back document no_newest no_next =
-    let undone = (none_undone (newest_group document.log) document no_newest).0 in
-    let again : after_redo (after_undo document) ≡ document = ap after_redo undone ∙ (none_redone (next_group document.log) document no_next).0 in
+    let undone : IsRelaid (after_undo document) document = subst (IsRelaid (after_undo document)) (none_undone (newest_group document.log) document no_newest).0 (undo_relaid document) in
+    let redone : IsRelaid (after_redo document) document = subst (IsRelaid (after_redo document)) (none_redone (next_group document.log) document no_next).0 (redo_relaid document) in
+    let again : IsRelaid (after_redo (after_undo document)) document =
+    relaid_over (after_redo (after_undo document)) (after_redo document) document (redo_ignores (after_undo document) document undone) redone in
     record {
       same = subst (λ (d : DocumentState). IsSame (logged d) (logged document)) (sym again) (record { text = refl; done = refl; undone = refl });
       cursor = ap (λ (d : DocumentState). d.cursor) again;

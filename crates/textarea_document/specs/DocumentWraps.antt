@@ -1,5 +1,6 @@
 -- Which lines an edit of a document wraps: what it adds to the wrap counter, and which rows stay.
 use Rattle.std.specs.Prelude.{List}
+use Rattle.textarea_lines.specs.AtOnce.{WrapsAtOnce}
 use Rattle.textarea_lines.specs.LineWraps.{WrapsForSplices, WrapsAllLines, WrapsNoLine, WrapsForSettings, WrapsForSplice, WrapsForWidth}
 use Rattle.textarea_lines.specs.declared.settings.LayoutSettings.{LayoutSettings}
 use Rattle.textarea_text.specs.Splice.{Splice}
@@ -14,6 +15,11 @@ SplicesBy old splice new = WrapsForSplice (text_and_layout old) splice (text_and
 -- wraps the lines that such a splice wraps
 abbrev pub SplicedBy : DocumentState → List Splice → DocumentState → Type 0
 SplicedBy old splices new = WrapsForSplices (text_and_layout old) splices (text_and_layout new)
+
+-- the splices lead there, and each line that one of them touches is wrapped, once, or all lines are,
+-- if their number changes how lines wrap
+abbrev pub SplicedAtOnce : DocumentState → List Splice → DocumentState → Type 0
+SplicedAtOnce old splices new = WrapsAtOnce (text_and_layout old) splices (text_and_layout new)
 
 -- no line is wrapped: the wrap counter and the ticks stay
 abbrev pub WrapsNothing : DocumentState → DocumentState → Type 0

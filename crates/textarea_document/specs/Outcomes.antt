@@ -1,6 +1,7 @@
 -- The documents after an edit, an undo, a redo and a move.
-use Rattle.std.specs.Prelude.{Bool, false, ℕ, length, Option, Some, None}
+use Rattle.std.specs.Prelude.{Bool, false, ℕ, length, nat_lt, Option, Some, None, if◌then◌else◌}
 use Rattle.textarea_text.specs.Text.{lines}
+use Rattle.textarea_lines.specs.AtOnce.{numbered, wrapped_once}
 use Rattle.textarea_lines.specs.TextLayout.{Layout, after_splice}
 use Rattle.textarea_text.specs.Place.{Place}
 use Rattle.textarea_text.specs.Splice.{Splice, applied, inverse, place_after}
@@ -8,6 +9,7 @@ use Rattle.textarea_history.specs.HistoryLaw.{times}
 use Rattle.textarea_history.specs.Log.{Log, recorded, newest, newest_group, next, next_group, undone_log, redone_log}
 use Rattle.textarea_ranges.specs.Moved.{moved_ranges}
 use Rattle.textarea_document.specs.Changes.{with_splice}
+use Rattle.textarea_document.specs.DocumentRows.{text_and_layout}
 use Rattle.textarea_document.specs.DocumentState.{DocumentState}
 use Rattle.textarea_document.specs.PastRanges.{PastRanges, ranges_before_newest, ranges_before_next, ranges_or, ranges_to_remember, with_newest}
 
@@ -46,6 +48,34 @@ after_edit document splice typed now =
       past_ranges = past_ranges_after document splice typed now;
     }
 
+-- ---- several edits at once
+
+-- the document with its lines numbered and not wrapped, in which edits are made that wrap at once
+abbrev pub lines_numbered : DocumentState → DocumentState
+lines_numbered document = record document { layout = (numbered (text_and_layout document)).layout }
+
+-- the layout of a document to which edits of the numbered lines of another one led: each line that
+-- one of them touched is wrapped, once, and all others keep their rows; all lines are wrapped if
+-- their number changes how lines wrap
+unfoldable pub layout_at_once : DocumentState → DocumentState → Layout
+layout_at_once before document =
+    (wrapped_once (text_and_layout before) (text_and_layout document)).layout
+
+-- edits led to this document from the other one, with its lines numbered
+abbrev pub wrapped_at_once : DocumentState → DocumentState → DocumentState
+wrapped_at_once before document = record document { layout = layout_at_once before document }
+
+-- the edits are made, and wrap at once
+abbrev pub made_at_once : (DocumentState → DocumentState) → DocumentState → DocumentState
+made_at_once edits document = wrapped_at_once document (edits (lines_numbered document))
+
+-- this many steps, one after another; several wrap at once
+abbrev pub times_at_once : ℕ → (DocumentState → DocumentState) → DocumentState → DocumentState
+times_at_once count step document =
+    if nat_lt 1 count then made_at_once (times count step) document else times count step document
+
+-- ---- undo and redo
+
 -- the newest edit is undone, if there is one: the cursor is after the restored text, or where it
 -- removed text. The ranges are those before the edit, if they are remembered; else they move
 abbrev pub after_undo_by : Option Splice → DocumentState → DocumentState
@@ -61,7 +91,7 @@ edit_undone document = after_undo_by (newest document.log) document
 
 -- the edits of the newest group are undone, the newest first
 abbrev pub after_undo : DocumentState → DocumentState
-after_undo document = times (newest_group document.log) edit_undone document
+after_undo document = times_at_once (newest_group document.log) edit_undone document
 
 -- the edit that was undone last is redone, if there is one: the cursor is where it left it. The
 -- ranges before the edit, if they are remembered, move with the text, or else those that are there
@@ -78,7 +108,9 @@ edit_redone document = after_redo_by (next document.log) document
 
 -- the edits of the group that was undone last are redone
 abbrev pub after_redo : DocumentState → DocumentState
-after_redo document = times (next_group document.log) edit_redone document
+after_redo document = times_at_once (next_group document.log) edit_redone document
+
+-- ---- moves
 
 abbrev pub run_ended : Log → Log
 run_ended log = record log { run_open = false }

@@ -35,13 +35,14 @@ pub use Rattle.textarea_ranges.specs.Order.{AreInOrder}
 pub use Rattle.textarea_ranges.specs.Rejected.{AreRejected}
 pub use Rattle.textarea_ranges.specs.Valid.{AreValid, IsRangeOfLine}
 pub use Rattle.textarea_blocks.specs.Sums.{row_total}
+pub use Rattle.textarea_lines.specs.AtOnce.{IsChangedFrom, WrapsAtOnce, applied_each, numbered, wrapped_once}
 pub use Rattle.textarea_lines.specs.LineWraps.{WrapsForSettings, WrapsForSplice, WrapsForWidth}
 pub use Rattle.textarea_lines.specs.TextLayout.{TextAndLayout, Layout, all_wrapped, applied_to, at_width, is_wrapped_at, layout_from_scratch, with_settings, keeps_wrapping, wrapping_at, wrapping_of}
 pub use Rattle.textarea_lines.specs.TextRows.{OfRows}
 pub use Rattle.textarea_lines.specs.View.{IsPrepared, IsViewOf}
 pub use Rattle.textarea_lines.specs.Wrappings.{is_same_wrapping, wrapping_for}
 pub use Rattle.textarea_lines.specs.declared.settings.LayoutSettings.{LayoutSettings}
-pub use Rattle.textarea_document.specs.DocumentWraps.{SplicedBy, WrapsAll, WrapsBySettings, WrapsByWidth, SplicesBy}
+pub use Rattle.textarea_document.specs.DocumentWraps.{SplicedAtOnce, SplicedBy, WrapsAll, WrapsBySettings, WrapsByWidth, SplicesBy}
 pub use Rattle.textarea_document.specs.Edits.{Insert, HasEffect, IsSymbolAfter, Remove, RemoveBefore, RemoveAfter, RemoveBreak, EditStep, break_inserted, break_removal, break_removed}
 pub use Rattle.textarea_document.specs.Edits.{character_inserted, cursor_index, range_at_cursor, range_before, range_after, cursor_range_removed, insertion, insertion_place, is_at_end, is_at_start}
 pub use Rattle.textarea_document.specs.Edits.{has_symbols, nothing_inserted, removal, splice_of_step, stepped, symbol_removal, symbol_removed_before, symbol_removed_after, symbols_inserted}
@@ -51,6 +52,8 @@ pub use Rattle.textarea_document.specs.RangesOverSplices.{AllStayOrAreDropped, A
 pub use Rattle.textarea_document.specs.Covered.{CoversNoMore}
 pub use Rattle.textarea_document.specs.DocumentLaw.{RemembersBefore, RestoresAll, RestoresDocument, ListsFit, ranges_before_group}
 pub use Rattle.textarea_document.specs.Outcomes.{after_change, after_edit, after_move, after_redo, after_redo_by, edit_redone, edit_undone, past_ranges_after, run_ended, unanchored, after_undo, after_undo_by}
+pub use Rattle.textarea_document.specs.Outcomes.{lines_numbered, made_at_once, times_at_once, wrapped_at_once}
+unfoldable pub use Rattle.textarea_document.specs.Outcomes.{layout_at_once}
 pub use Rattle.textarea_document.specs.Ranges.{SplitsNoRange, SplitsNoRangeBy, accepted, anchor_out, anchored, with_ranges, normalized, range_removed, ranges_forgotten, unless_empty}
 pub use Rattle.textarea_document.specs.DocumentRows.{text_and_layout, with_inner_width, with_layout_settings}
 unfoldable pub use Rattle.textarea_document.specs.DocumentRows.{HasRowsAt, IsAboveCursor, IsBelowCursor}

@@ -8,7 +8,7 @@ use Rattle.textarea_history.specs.Groups.{is_open}
 use Rattle.textarea_history.specs.Log.{group_begun, group_ended}
 use Rattle.textarea_document.specs.DocumentState.{DocumentState}
 use Rattle.textarea_document.specs.Edits.{between_removed, has_symbols, symbols_inserted}
-use Rattle.textarea_document.specs.Outcomes.{after_move}
+use Rattle.textarea_document.specs.Outcomes.{after_move, made_at_once}
 use Rattle.textarea_document.specs.Splices.{insertion_splices, removal_splices}
 
 -- ---- the text between two positions, in either order
@@ -102,11 +102,16 @@ each_replaced document passed (stretch ∷ rest) symbols now =
 abbrev pub begun_at_start : DocumentState → DocumentState
 begun_at_start document = after_move (begun document) (0, 0) None
 
--- all of them in one group; without any nothing changes
+-- all of them in one group
+abbrev pub replaced_in_turn : DocumentState → List (ℕ × ℕ) → List Symbol → ℕ → DocumentState
+replaced_in_turn document stretches symbols now =
+    ended_after document (each_replaced (begun_at_start document) 0 stretches symbols now)
+
+-- the same, but each line that an edit touches is wrapped once; without any nothing changes
 unfoldable pub all_replaced : DocumentState → List (ℕ × ℕ) → List Symbol → ℕ → DocumentState
 all_replaced document [] symbols now = document
 all_replaced document (stretch ∷ rest) symbols now =
-    ended_after document (each_replaced (begun_at_start document) 0 (stretch ∷ rest) symbols now)
+    made_at_once (λ copy. replaced_in_turn copy (stretch ∷ rest) symbols now) document
 
 -- ---- their splices
 

@@ -19,7 +19,7 @@ mod undo;
 
 ghost use Rattle.std.specs.Prelude.{◌≡◌, ◌<◌, ◌≤◌, ◌+◌, ◌↔◌, length, OnOk, OnErr, IsOk, IfOk, IfSome, None, IsTrue, is_some, [], vec_len};
 ghost use Rattle.textarea_document.specs.ChangeLog.{changes_of};
-ghost use Rattle.textarea_document.specs.Prelude.{history_forgotten, as_nanos, size_limit, lines, lines_of, text_of, IsPlace, size_of, Fits, place_after, IsWellFormed, newest, next, new_document, lines_replaced, after_edit, after_move, after_redo, run_ended, after_undo, applied_to, moved_ranges, with_splice, AreInOrder, AreValid, SplitsNoRange};
+ghost use Rattle.textarea_document.specs.Prelude.{history_forgotten, as_nanos, size_limit, lines, lines_of, text_of, IsPlace, size_of, Fits, place_after, IsWellFormed, newest, next, lines_numbered, new_document, lines_replaced, after_edit, after_move, after_redo, run_ended, after_undo, applied_to, moved_ranges, with_splice, AreInOrder, AreValid, SplitsNoRange};
 
 use crate::document::changes::ChangeLog;
 use crate::document::range_history::RangeHistory;
@@ -102,6 +102,27 @@ impl Document {
         Ok(copy)
     }
 
+    // Returns a copy with the log of changes, in which edits can be made that wrap at once: its lines
+    // are numbered and not wrapped.
+    fn with_lines_numbered(&self) -> Result<Document, AllocError>
+        ensures { IfOk result (λ copy. copy ≡ lines_numbered self.now) }
+    {
+        let text_layout = self.text_layout.numbered()?;
+        let ranges = self.ranges.clone()?;
+        let history = self.history.clone()?;
+        let changes = self.changes.copied()?;
+        let range_history = self.range_history.copied()?;
+        Ok(Document {
+            text_layout,
+            cursor: self.cursor,
+            anchor: self.anchor,
+            ranges,
+            history,
+            changes,
+            range_history,
+        })
+    }
+
     /// Returns a document with these lines, layout settings and maximum of remembered edits, and
     /// the cursor at the start. An empty list becomes one empty line. A line feed inside a line
     /// stays a character of that line.
@@ -176,7 +197,8 @@ impl Document {
     /// after the text that was restored last, or where text was removed last, and nothing is selected.
     /// The ranges are those before the group, if these are remembered, as for `set_undo_ranges`; else
     /// the remaining ones have moved with the text. An open group is closed. The edits of a group are
-    /// undone in a copy of the document, so that out of memory changes nothing.
+    /// undone in a copy of the document, so that out of memory changes nothing, and each line that
+    /// they touch is wrapped once.
     pub fn undo(&mut self) -> Result<bool, AllocError>
         ensures undone { IfOk result (λ found. found ≡ is_some (newest self.old.log)) }
         ensures ok { OnOk result (self.new ≡ after_undo self.old) }
@@ -193,7 +215,7 @@ impl Document {
     /// Redoes the group of edits that was undone last, and returns whether there was an edit. The
     /// cursor is then where its last edit left it, and nothing is selected. The ranges are those after
     /// the group, if these are remembered; else the other ones have moved with the text. An open group
-    /// is closed. Out of memory changes nothing, as for `undo`.
+    /// is closed. Out of memory changes nothing, and each line is wrapped once at most, as for `undo`.
     pub fn redo(&mut self) -> Result<bool, AllocError>
         ensures redone { IfOk result (λ found. found ≡ is_some (next self.old.log)) }
         ensures ok { OnOk result (self.new ≡ after_redo self.old) }

@@ -1,10 +1,10 @@
 //! Laws of documents and their visual rows, each the contract of a function that does nothing.
 ghost use Rattle.std.specs.Prelude.{◌≡◌, ℕ, Bool, false, List, [], ◌∷◌, Contains, None, Option, Some};
-ghost use Rattle.textarea_document.specs.Prelude.{redo_splices, undo_splices, LayoutSettings, AtomicRange, TakesRange, moved_range, Place, end, Fits, Splice, Symbol, WrapsAll, WrapsBySettings, WrapsByWidth, SplicedBy, SplicesBy, HasEffect, EditStep, splice_of_step, stepped, AllStayOrAreDropped, AllStemFrom, RangesFollowPast, RangesFollowSplices, RangesStayWhole, after_edit, after_redo, after_undo, SplitsNoRange, HasRowsAt, IsAboveCursor, IsBelowCursor, with_inner_width, with_layout_settings, IsSound, DocumentState, fresh_document, CoversNoMore, RemembersBefore, newest_group, ranges_before_group, ChangesLead, lines_replaced};
+ghost use Rattle.textarea_document.specs.Prelude.{redo_splices, undo_splices, LayoutSettings, AtomicRange, TakesRange, moved_range, Place, end, Fits, Splice, Symbol, WrapsAll, WrapsBySettings, WrapsByWidth, SplicedAtOnce, SplicesBy, HasEffect, EditStep, splice_of_step, stepped, AllStayOrAreDropped, AllStemFrom, RangesFollowPast, RangesFollowSplices, RangesStayWhole, after_edit, after_redo, after_undo, SplitsNoRange, HasRowsAt, IsAboveCursor, IsBelowCursor, with_inner_width, with_layout_settings, IsSound, DocumentState, fresh_document, CoversNoMore, RemembersBefore, newest_group, ranges_before_group, ChangesLead, lines_replaced};
 ghost use Rattle.textarea_document.specs.ReplacedText.{AreReplaceable, with_replaced};
-ghost use Rattle.textarea_document.specs.Replacing.{all_replaced};
+ghost use Rattle.textarea_document.specs.Replacing.{all_replaced, all_splices};
 
-use textarea_lines::laws::{settings_wrap, splices_wrap};
+use textarea_lines::laws::{one_list_of_rows, settings_wrap, splices_wrap, splices_wrap_at_once};
 use textarea_ranges::laws::ranges_follow_the_text;
 
 /// From a document's cursor at most one position is one visual row up, and at most one down.
@@ -26,9 +26,10 @@ pub fn one_row_count()
     textarea_screen_map::laws::one_row_count();
 }
 
-/// Which lines each edit, undo and redo wraps, and so adds to the wrap counter: for each of its
-/// splices the lines that the splice touches, if it keeps the width of the map of visual rows, and
-/// otherwise all lines.
+/// Which lines each edit wraps, and so adds to the wrap counter: those that its splice touches, if it
+/// keeps the width of the map of visual rows, and otherwise all lines. An undo, a redo, and stretches
+/// that are replaced at once wrap each line that one of their splices touches, once, if they keep that
+/// width, and otherwise each line once.
 pub fn edits_wrap()
     ensures edited { (document : DocumentState) (splice : Splice) (typed : Bool) (now : ℕ) →
         Fits document.text splice →
@@ -37,11 +38,17 @@ pub fn edits_wrap()
         IsSound document → HasEffect document step →
         SplicesBy document (splice_of_step document step) (stepped document step typed now) }
     ensures undone { (document : DocumentState) →
-        IsSound document → SplicedBy document (undo_splices document) (after_undo document) }
+        IsSound document → SplicedAtOnce document (undo_splices document) (after_undo document) }
     ensures redone { (document : DocumentState) →
-        IsSound document → SplicedBy document (redo_splices document) (after_redo document) }
+        IsSound document → SplicedAtOnce document (redo_splices document) (after_redo document) }
+    ensures replaced { (document : DocumentState) (stretches : List (ℕ × ℕ)) (symbols : List Symbol) (now : ℕ) →
+        IsSound document →
+        SplicedAtOnce document (all_splices document stretches symbols now)
+        (all_replaced document stretches symbols now) }
 {
+    one_list_of_rows();
     splices_wrap();
+    splices_wrap_at_once();
 }
 
 /// What else wraps lines of a document: another inner width wraps all lines if it changes the width

@@ -1,4 +1,5 @@
-//! What decides what the next event does.
+//! What an editor's next event depends on, beside the texts: what the next key is for, the search,
+//! and the settings.
 
 ghost use Rattle.std.specs.Prelude.{◌≡◌};
 ghost use Rattle.textarea_editor.specs.SetUp.{new_controls, new_modal};
@@ -8,7 +9,7 @@ use textarea_keys::focus::Focus;
 use textarea_keys::search::SearchOptions;
 use textarea_modal::Modal;
 
-/// What decides, beside the texts, what the next event does in an editor.
+/// What an editor's next event depends on, beside the texts.
 #[derive(Clone, Copy)]
 pub struct Controls {
     /// What the next key is for.

@@ -1,6 +1,6 @@
 -- Lines with their rows, after some of them are replaced.
 use Rattle.std.proofs.lemmas.Grind.{common_steps}
-use Rattle.std.proofs.Common.{◌≡◌, ℕ, ◌+◌, ◌-◌, ◌≤◌, ◌<◌, Bool, true, false, cond, List, length, sym, ap, ◌∙◌, arith, String}
+use Rattle.std.proofs.Common.{◌≡◌, ℕ, ◌+◌, ◌-◌, ◌≤◌, ◌<◌, Bool, true, false, cond, List, Option, None, length, sym, ap, ◌∙◌, arith, String}
 use Rattle.std.proofs.lemmas.List.{length-map}
 use Rattle.textarea_util.specs.Limit.{size_limit}
 use Rattle.textarea_text.specs.Place.{inserted, removed}
@@ -18,7 +18,7 @@ use Rattle.textarea_screen_map.specs.declared.layout.Wrapping.{Wrapping}
 use Rattle.textarea_screen_map.specs.LineRows.{AreRowsOf, ticks_after, ticks_of, with_tab_len}
 use Rattle.textarea_screen_map.specs.Map.{MapView}
 use Rattle.textarea_lines.specs.declared.settings.LayoutSettings.{LayoutSettings}
-use Rattle.textarea_lines.specs.TextLayout.{TextAndLayout, applied_to, layout_from_scratch, after_replacement, replaced_in, wrapping_of}
+use Rattle.textarea_lines.specs.TextLayout.{Origins, TextAndLayout, layout_from_scratch, layout_of, after_replacement, lines_spliced, replaced_in, wrapping_of}
 use Rattle.textarea_lines.specs.Stored.{IsStored, HoldsRows}
 use Rattle.textarea_lines.specs.Wrappings.{is_same_wrapping, is_wrapped, wrapping_for}
 use Rattle.textarea_lines.proofs.Layouts.{map-replaced}
@@ -58,9 +58,9 @@ holds_replaced settings old now new row count size n map h n_is wrapping right s
     }
 
 pub layout_replaced :
-    {Z : Type 0} (settings : LayoutSettings) (old now new : List (String Z)) (row count n before after : ℕ) (first rows : List RowsView) → Replacing old now new row count → n ≡ length new
-    → record { settings = settings; count = after; ticks = ticks_of rows } ≡ after_replacement (record { settings = settings; count = before; ticks = ticks_of first }) (length old) row count n
-    → text_layout_of settings now after rows ≡ replaced_in (text_layout_of settings old before first) row count (lines_of new)
+    {Z : Type 0} {o : Option Origins} (settings : LayoutSettings) (old now new : List (String Z)) (row count n before after : ℕ) (first rows : List RowsView) → Replacing old now new row count → n ≡ length new
+    → layout_of settings after rows o ≡ after_replacement (layout_of settings before first o) (length old) row count n
+    → text_layout_of o settings now after rows ≡ replaced_in (text_layout_of o settings old before first) row count (lines_of new)
 layout_replaced settings old now new row count n before after first rows h n_is layout =
     cc (text_now old now new row count h, count_stored old h.some, length-map new characters_of)
 
@@ -70,7 +70,7 @@ layout_replaced settings old now new row count n before after first rows h n_is 
 pub made :
     (text_layout : TextAndLayout) (items borrowed_lines : List (String Global)) (replacement : Replacement) (splice : Splice) → 0 < length items
     → text_of items ≡ text_layout.text → borrowed_lines ≡ items → IsReplacementFor borrowed_lines splice replacement
-    → replaced_in text_layout replacement.row replacement.count (lines_of replacement.lines.items) ≡ applied_to text_layout splice
+    → replaced_in text_layout replacement.row replacement.count (lines_of replacement.lines.items) ≡ lines_spliced text_layout splice
 made text_layout items borrowed_lines replacement splice some is borrowed_is h = grind (arith, common_steps, text_replaced, length-map)
 
 -- the size after a change
@@ -92,20 +92,20 @@ size_made items text size after splice stored is fits after_is =
 pub wrapped_new :
     {Z : Type 0} (settings : LayoutSettings) (items borrowed_lines : List (String Z)) (old count : ℕ) (rows : List RowsView) → 0 < length items
     → borrowed_lines ≡ items → count ≡ old + length borrowed_lines → ticks_of rows ≡ ticks_after old (length borrowed_lines)
-    → text_layout_of settings items count rows ≡ layout_from_scratch settings old (text_of items)
+    → text_layout_of None settings items count rows ≡ layout_from_scratch settings old (text_of items)
 wrapped_new settings items borrowed_lines old count rows some borrowed_is counted ticks =
     cc (count_stored items some)
 
 -- how lines are wrapped under old and new settings
-pub record Reviewing {Z : Type 0} (old settings : LayoutSettings) (items : List (String Z)) (count : ℕ) (rows : List RowsView) (text_layout : TextAndLayout) (before after : Wrapping) : Type 0 where
+pub record Reviewing {Z : Type 0} (o : Option Origins) (old settings : LayoutSettings) (items : List (String Z)) (count : ℕ) (rows : List RowsView) (text_layout : TextAndLayout) (before after : Wrapping) : Type 0 where
   pub some : 0 < length items
-  pub is : text_layout_of old items count rows ≡ text_layout
+  pub is : text_layout_of o old items count rows ≡ text_layout
   pub before_is : before ≡ wrapping_for old (length items)
   pub after_is : after ≡ wrapping_for settings (length items)
 
 pub test_is :
-    {Z : Type 0} (old settings : LayoutSettings) (items : List (String Z)) (count : ℕ) (rows : List RowsView) (text_layout : TextAndLayout) (before after : Wrapping)
-    → Reviewing old settings items count rows text_layout before after
+    {Z : Type 0} {o : Option Origins} (old settings : LayoutSettings) (items : List (String Z)) (count : ℕ) (rows : List RowsView) (text_layout : TextAndLayout) (before after : Wrapping)
+    → Reviewing o old settings items count rows text_layout before after
     → is_same_wrapping (wrapping_for settings (length (lines text_layout.text))) (wrapping_of text_layout) ≡ is_same_wrapping after before
 test_is old settings items count rows text_layout before after h =
     rw (← h.is, count_stored items h.some, h.after_is, h.before_is)

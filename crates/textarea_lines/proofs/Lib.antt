@@ -16,3 +16,8 @@ mod Splicing
 mod SplicedRows
 mod Wrapping
 pub mod Positions
+mod ComingLines
+mod RowsOnce
+mod WrappingOnce
+mod TouchedRows
+mod HeldOnce

@@ -5,7 +5,7 @@ use Rattle.textarea_wrap.specs.RowsView.{RowsView}
 use Rattle.textarea_screen_map.specs.LineRows.{AreRowsOf, ticks_of}
 use Rattle.textarea_screen_map.specs.declared.layout.Wrapping.{Wrapping}
 
-row_same : (row other : RowsView) → row.ranges ≡ other.ranges → row.marks ≡ other.marks → row.tick ≡ other.tick → row ≡ other
+pub row_same : (row other : RowsView) → row.ranges ≡ other.ranges → row.marks ≡ other.marks → row.tick ≡ other.tick → row ≡ other
 row_same row other ranges marks tick = rw (ranges, marks, tick) refl
 
 pub rows_same :

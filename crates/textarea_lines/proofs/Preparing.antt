@@ -1,6 +1,6 @@
 -- Rows that are prepared beside the current ones: of some lines, or of all.
 use Rattle.std.proofs.lemmas.Grind.{common_steps}
-use Rattle.std.proofs.Common.{arith, ◌≡◌, ℕ, ◌+◌, ◌-◌, true, false, List, length, String, Result, Ok, Err, Global, refl, sym, ap, ◌∙◌}
+use Rattle.std.proofs.Common.{arith, ◌≡◌, ℕ, ◌+◌, ◌-◌, true, false, List, Option, length, String, Result, Ok, Err, Global, refl, sym, ap, ◌∙◌}
 use Rattle.std.specs.Result.{IfOk, OnOk}
 use Rattle.std.specs.declared.alloc.AllocError.{AllocError}
 use Rattle.std.proofs.lemmas.List.{length-map}
@@ -16,7 +16,7 @@ use Rattle.textarea_screen_map.specs.declared.layout.Wrapping.{Wrapping}
 use Rattle.textarea_screen_map.specs.LineRows.{AreRowsOf, ticks_after, ticks_of}
 use Rattle.textarea_screen_map.proofs.Layouts.{AreRowsOf-replaced, length-AreRowsOf}
 use Rattle.textarea_lines.specs.declared.settings.LayoutSettings.{LayoutSettings}
-use Rattle.textarea_lines.specs.TextLayout.{Layout, after_replacement, count_after, lines_after}
+use Rattle.textarea_lines.specs.TextLayout.{Layout, Origins, after_replacement, count_after, lines_after}
 use Rattle.textarea_lines.specs.Wrappings.{is_same_wrapping, wrapping_for}
 use Rattle.textarea_lines.proofs.Layouts.{map-replaced, replaced_whole}
 use Rattle.textarea_lines.proofs.SameWraps.{AreRowsOf-same}
@@ -44,23 +44,23 @@ rows_of_all now after lines n at number rows wraps others size is k at_is number
 
 -- ---- what contracts see of them
 
-abbrev screen_at : LayoutSettings → ℕ → List ℕ → Layout
-screen_at settings count ticks = record { settings = settings; count = count; ticks = ticks }
+abbrev screen_at : LayoutSettings → ℕ → List ℕ → Option Origins → Layout
+screen_at settings count ticks origins = record { settings = settings; count = count; ticks = ticks; origins = origins }
 
 screen_of_some :
     (settings : LayoutSettings) (old count n row removed_lines coming size at number : ℕ) (rows wraps others : List RowsView)
     → is_same_wrapping (wrapping_for settings (n - removed_lines + coming)) (wrapping_for settings n) ≡ true → count ≡ old + size → size ≡ coming
     → ticks_of wraps ≡ ticks_after old size → at ≡ row → number ≡ removed_lines → others ≡ wraps
-    → screen_at settings count (ticks_of (replaced rows at number others)) ≡ after_replacement (screen_at settings old (ticks_of rows)) n row removed_lines coming
-screen_of_some settings old count n row removed_lines coming size at number rows wraps others same counted size_is ticks at_is number_is others_is =
+    → (o : Option Origins) → screen_at settings count (ticks_of (replaced rows at number others)) o ≡ after_replacement (screen_at settings old (ticks_of rows) o) n row removed_lines coming
+screen_of_some settings old count n row removed_lines coming size at number rows wraps others same counted size_is ticks at_is number_is others_is o =
     cc (map-replaced (λ (r : RowsView). r.tick) rows wraps row removed_lines)
 
 screen_of_all :
     (settings : LayoutSettings) (old count n row removed_lines coming size at number : ℕ) (rows wraps others : List RowsView)
     → is_same_wrapping (wrapping_for settings (n - removed_lines + coming)) (wrapping_for settings n) ≡ false → length rows ≡ n → count ≡ old + size
     → size ≡ n - removed_lines + coming → ticks_of wraps ≡ ticks_after old size → at ≡ 0 → number ≡ n → others ≡ wraps
-    → screen_at settings count (ticks_of (replaced rows at number others)) ≡ after_replacement (screen_at settings old (ticks_of rows)) n row removed_lines coming
-screen_of_all settings old count n row removed_lines coming size at number rows wraps others differs long counted size_is ticks at_is number_is others_is =
+    → (o : Option Origins) → screen_at settings count (ticks_of (replaced rows at number others)) o ≡ after_replacement (screen_at settings old (ticks_of rows) o) n row removed_lines coming
+screen_of_all settings old count n row removed_lines coming size at number rows wraps others differs long counted size_is ticks at_is number_is others_is o =
     cc (replaced_whole rows wraps n long)
 
 -- ---- what is ready

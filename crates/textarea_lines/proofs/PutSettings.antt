@@ -3,7 +3,7 @@ use Rattle.std.proofs.Common.{◌≡◌, ℕ, ◌==◌, ◌&&◌, ◌||◌, Bool
 use Rattle.textarea_wrap.specs.declared.wrap.WrapMode.{WrapMode}
 use Rattle.textarea_wrap.specs.declared.wrap.WrapMode.TheVariants as mode
 use Rattle.textarea_screen_map.specs.declared.layout.Wrapping.{Wrapping}
-use Rattle.textarea_lines.specs.TextLayout.{TextAndLayout, layout_from_scratch, with_settings, keeps_wrapping}
+use Rattle.textarea_lines.specs.TextLayout.{TextAndLayout, rewrapped, with_settings, keeps_wrapping}
 use Rattle.textarea_lines.specs.Wrappings.{wrapped_at_width, is_same_wrapping, is_same_mode, whole_lines, wraps}
 use Rattle.textarea_lines.specs.declared.settings.LayoutSettings.{LayoutSettings}
 
@@ -11,7 +11,7 @@ use Rattle.textarea_lines.specs.declared.settings.LayoutSettings.{LayoutSettings
 
 abbrev put_if : Bool → TextAndLayout → LayoutSettings → TextAndLayout
 put_if b text_layout settings =
-    cond b (record { text = text_layout.text; layout = record { settings = settings; count = text_layout.layout.count; ticks = text_layout.layout.ticks } }) (layout_from_scratch settings text_layout.layout.count text_layout.text)
+    cond b (record { text = text_layout.text; layout = record text_layout.layout { settings = settings } }) (rewrapped text_layout settings)
 
 put_if_text : (b : Bool) (text_layout : TextAndLayout) (settings : LayoutSettings) → (put_if b text_layout settings).text ≡ text_layout.text
 put_if_text true text_layout settings = refl

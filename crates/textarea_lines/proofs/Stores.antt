@@ -1,6 +1,6 @@
 -- Stored lines: limits of positions, when the text is empty, and the size after a change.
 use Rattle.std.proofs.lemmas.Grind.{common_steps}
-use Rattle.std.proofs.Common.{◌≡◌, ℕ, zero, suc, ◌+◌, ◌<◌, ◌≤◌, true, false, cond, List, [], ◌∷◌, length, sym, ap, refl, ◌∙◌, arith, get_or, subst, String, string_bytes, encode_utf8_all}
+use Rattle.std.proofs.Common.{◌≡◌, ℕ, zero, suc, ◌+◌, ◌<◌, ◌≤◌, true, false, cond, List, [], ◌∷◌, length, sym, ap, refl, ◌∙◌, arith, get_or, subst, String, string_bytes, encode_utf8_all, Option}
 use Rattle.std.proofs.lemmas.Str.{IsUtf8-string_bytes, length-le-encodes, encodes-chars}
 use Rattle.std.proofs.lemmas.List.{length-map}
 use Rattle.textarea_util.specs.Limit.{size_limit}
@@ -11,13 +11,13 @@ use Rattle.textarea_text.proofs.Sizes.{length-le-size_of, size_of_text}
 use Rattle.textarea_text.proofs.Splices.{lines-joined}
 use Rattle.textarea_text.proofs.StringRows.{row_within, rows_place}
 use Rattle.textarea_wrap.specs.RowsView.{RowsView}
-use Rattle.textarea_screen_map.specs.LineRows.{AreRowsOf, ticks_of}
+use Rattle.textarea_screen_map.specs.LineRows.{AreRowsOf}
 use Rattle.textarea_screen_map.specs.declared.layout.Wrapping.{Wrapping}
 use Rattle.textarea_screen_map.specs.Map.{MapView}
 use Rattle.textarea_lines.specs.declared.settings.LayoutSettings.{LayoutSettings}
 use Rattle.textarea_lines.specs.Wrappings.{wrapped_at_width, is_wrapped, whole_lines, wrapping_for}
 use Rattle.textarea_lines.specs.TextRows.{HasLayout}
-use Rattle.textarea_lines.specs.TextLayout.{TextAndLayout}
+use Rattle.textarea_lines.specs.TextLayout.{Origins, TextAndLayout, layout_of}
 use Rattle.textarea_lines.specs.Stored.{IsStored, HoldsRows}
 
 -- ---- positions
@@ -41,8 +41,8 @@ pub count_stored : {Z : Type 0} (items : List (String Z)) → 0 < length items �
 count_stored items some = ap length (lines_stored items some) ∙ length-map items characters_of
 
 -- what contracts see of some lines with their rows
-abbrev pub text_layout_of : {Z : Type 0} → LayoutSettings → List (String Z) → ℕ → List RowsView → TextAndLayout
-text_layout_of settings items count rows = record { text = text_of items; layout = record { settings = settings; count = count; ticks = ticks_of rows } }
+abbrev pub text_layout_of : {Z : Type 0} → Option Origins → LayoutSettings → List (String Z) → ℕ → List RowsView → TextAndLayout
+text_layout_of origins settings items count rows = record { text = text_of items; layout = layout_of settings count rows origins }
 
 -- the stored rows, wrapped by the settings
 pub right_rows : {Z : Type 0} (settings : LayoutSettings) (items : List (String Z)) (size : ℕ) (map : MapView) → HoldsRows settings items size map → AreRowsOf (wrapping_for settings (length items)) (lines_of items) map.rows
@@ -50,8 +50,8 @@ right_rows settings items size map h = subst (λ (w : Wrapping). AreRowsOf w (li
 
 -- they are those of the text
 pub layout_as :
-    {Z : Type 0} (settings : LayoutSettings) (items : List (String Z)) (size count : ℕ) (map : MapView) (text_layout : TextAndLayout)
-    → HoldsRows settings items size map → text_layout_of settings items count map.rows ≡ text_layout → HasLayout text_layout map.rows
+    {Z : Type 0} {o : Option Origins} (settings : LayoutSettings) (items : List (String Z)) (size count : ℕ) (map : MapView) (text_layout : TextAndLayout)
+    → HoldsRows settings items size map → text_layout_of o settings items count map.rows ≡ text_layout → HasLayout text_layout map.rows
 layout_as settings items size count map text_layout h is =
     subst (λ (l : TextAndLayout). HasLayout l map.rows) is
     (record { text_layout = rw (lines_stored items h.stored.some, length-map items characters_of) (right_rows settings items size map h); ticks = refl })
@@ -82,6 +82,6 @@ holds_copied settings old copies size map again h e same =
     }
 
 pub layout_copied :
-    {Z : Type 0} (settings : LayoutSettings) (old copies : List (String Z)) (count again : ℕ) (rows others : List RowsView) → lines_of copies ≡ lines_of old → again ≡ count → others ≡ rows
-    → text_layout_of settings copies again others ≡ text_layout_of settings old count rows
-layout_copied settings old copies count again rows others e count_is rows_are = cc
+    {Z : Type 0} {o o' : Option Origins} (settings : LayoutSettings) (old copies : List (String Z)) (count again : ℕ) (rows others : List RowsView) → lines_of copies ≡ lines_of old → again ≡ count → others ≡ rows → o' ≡ o
+    → text_layout_of o' settings copies again others ≡ text_layout_of o settings old count rows
+layout_copied settings old copies count again rows others e count_is rows_are origins_are = cc

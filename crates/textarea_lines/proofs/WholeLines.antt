@@ -1,6 +1,6 @@
 -- Lines that aren't wrapped, and a change inside one of them.
 use Rattle.std.proofs.lemmas.Grind.{common_steps}
-use Rattle.std.proofs.Common.{◌≡◌, ℕ, zero, suc, ◌+◌, ◌<◌, ◌≤◌, Bool, true, false, cond, List, [], ◌∷◌, ◌++◌, length, take, drop, get_or, encode_utf8_all, sym, ap, refl, ◌∙◌, arith, String, Result, Ok, Err, is_ok}
+use Rattle.std.proofs.Common.{◌≡◌, ℕ, zero, suc, ◌+◌, ◌<◌, ◌≤◌, Bool, true, false, cond, List, [], ◌∷◌, ◌++◌, length, take, drop, get_or, encode_utf8_all, sym, ap, refl, ◌∙◌, arith, Option, String, Result, Ok, Err, is_ok}
 use Rattle.std.specs.Result.{IsOk}
 use Rattle.std.proofs.lemmas.List.{get_or-append_right, length-map, length-take-le}
 use Rattle.textarea_util.specs.Limit.{size_limit}
@@ -17,7 +17,7 @@ use Rattle.textarea_wrap.specs.WrapRules.{ranges_from}
 use Rattle.textarea_wrap.specs.RowsView.{RowsView}
 use Rattle.textarea_wrap.specs.WrapResult.{IsWrapped}
 use Rattle.textarea_wrap.specs.declared.wrap.WrapMode.TheVariants as mode
-use Rattle.textarea_screen_map.specs.LineRows.{AreRowsOf, AreRowsOfLine, ticks_of}
+use Rattle.textarea_screen_map.specs.LineRows.{AreRowsOf, AreRowsOfLine}
 use Rattle.textarea_blocks.specs.Sums.{line_bytes, ranges_at, row_total, size_total}
 use Rattle.textarea_screen_map.specs.Map.{MapView}
 use Rattle.textarea_screen_map.proofs.Layouts.{AreRowsOf-drop, AreRowsOf-replaced, AreRowsOf-take, length-AreRowsOf}
@@ -27,7 +27,7 @@ use Rattle.textarea_screen_map.proofs.RowSizes.{size_of_lines}
 use Rattle.textarea_screen_map.proofs.VisualRows.{rows_before_next}
 use Rattle.textarea_lines.specs.declared.settings.LayoutSettings.{LayoutSettings}
 use Rattle.textarea_lines.specs.TextRows.{CanStayWhole, HasWholeLine, line_size}
-use Rattle.textarea_lines.specs.TextLayout.{Layout, applied_to, after_replacement, some_wrapped}
+use Rattle.textarea_lines.specs.TextLayout.{Layout, Origins, after_replacement, layout_of, lines_spliced, some_wrapped}
 use Rattle.textarea_lines.specs.Stored.{IsStored, HoldsRows}
 use Rattle.textarea_lines.specs.Wrappings.{is_wrapped, whole_lines, wrapping_for}
 use Rattle.textarea_lines.proofs.Layouts.{map-replaced}
@@ -190,11 +190,11 @@ replaced_one true breaks e = (refl, omega arith)
 replaced_one false breaks e = (omega arith, refl)
 
 pub layout_inside :
-    {Z : Type 0} (settings : LayoutSettings) (old now borrowed_lines : List (String Z)) (size after count counted : ℕ) (map : MapView) (new : List RowsView) (splice : Splice) (row : ℕ)
+    {Z : Type 0} {o : Option Origins} (settings : LayoutSettings) (old now borrowed_lines : List (String Z)) (size after count counted : ℕ) (map : MapView) (new : List RowsView) (splice : Splice) (row : ℕ)
     → Inside settings old now borrowed_lines size after map splice row → HasWholeLine map.wrapping.tab_len (get_or (lines_of borrowed_lines) row []) row (count + 1) map.rows new → counted ≡ count + 1
-    → text_layout_of settings now counted new ≡ applied_to (text_layout_of settings old count map.rows) splice
-layout_inside settings old now borrowed_lines size after count counted map new splice row h k counted_is =
+    → text_layout_of o settings now counted new ≡ lines_spliced (text_layout_of o settings old count map.rows) splice
+layout_inside {Z} {o} settings old now borrowed_lines size after count counted map new splice row h k counted_is =
     let numbers = replaced_one splice.inserts (breaks_of splice.symbols) h.none in
-    let layout : Layout = record { settings = settings; count = count; ticks = ticks_of map.rows } in
+    let layout : Layout = layout_of settings count map.rows o in
     rw (recut_one layout (length (lines (text_of old))) splice.place.0 (replaced_line_count splice) (new_line_count splice) h.whole numbers.0 numbers.1)
     (cc (map-replaced (λ (r : RowsView). r.tick) map.rows (k.wrapped ∷ []) row 1))

@@ -1,6 +1,6 @@
 -- The lines that a splice, another width and other settings wrap; the count never decreases.
 use Rattle.std.proofs.lemmas.Grind.{common_steps}
-use Rattle.std.proofs.Common.{◌≡◌, ◌≢◌, ◌⊎◌, inl, inr, ℕ, ◌+◌, ◌-◌, ◌==◌, ◌≤◌, Bool, true, false, cond, List, [], ◌∷◌, Option, None, Some, length, ap, refl, sym, subst, ◌∙◌, le_trans, arith, eq-eqb}
+use Rattle.std.proofs.Common.{◌≡◌, ◌≢◌, ◌⊎◌, inl, inr, ℕ, ◌+◌, ◌-◌, ◌==◌, ◌≤◌, Bool, true, false, cond, List, [], ◌∷◌, Option, None, Some, option_map, length, ap, refl, sym, subst, ◌∙◌, le_trans, arith, eq-eqb}
 use Rattle.std.proofs.lemmas.Bool.{eqb-true}
 use Rattle.textarea_text.specs.Splice.{Splice, Fits, applied}
 use Rattle.textarea_text.specs.Text.{lines}
@@ -9,7 +9,7 @@ use Rattle.textarea_screen_map.specs.LineRows.{AreRowsOf}
 use Rattle.textarea_screen_map.specs.declared.layout.Wrapping.{Wrapping}
 use Rattle.textarea_lines.specs.declared.settings.LayoutSettings.{LayoutSettings}
 use Rattle.textarea_lines.specs.LineWraps.{WrapsForSplices, WrapsAllLines, WrapsNoLine, WrapsTouchedLines, WrapsForSettings, WrapsForSplice, WrapsForWidth, map_width, width_for}
-use Rattle.textarea_lines.specs.TextLayout.{TextAndLayout, Layout, all_wrapped, applied_to, at_width, layout_from_scratch, with_settings, some_wrapped, keeps_wrapping, wrapping_of}
+use Rattle.textarea_lines.specs.TextLayout.{TextAndLayout, Layout, Origins, all_wrapped, applied_to, at_width, origins_spliced, rewrapped, with_settings, some_wrapped, keeps_wrapping, wrapping_of}
 use Rattle.textarea_lines.specs.Wrappings.{is_same_wrapping, wrapping_for}
 use Rattle.textarea_lines.proofs.MapWidths.{other_test, same_test, same_wrapping}
 use Rattle.textarea_lines.proofs.PutSettings.{settings_put, text_stays}
@@ -20,7 +20,10 @@ use Rattle.textarea_lines.proofs.Splicing.{count_spliced, splices_lines}
 
 -- the layout after a splice, by whether lines are wrapped as before
 abbrev layout_if : Bool → TextAndLayout → Splice → ℕ → Layout
-layout_if b text_layout splice after = cond b (some_wrapped text_layout.layout splice.place.0 (replaced_line_count splice) (new_line_count splice)) (all_wrapped text_layout.layout.settings text_layout.layout.count after)
+layout_if b text_layout splice after =
+    record (cond b (some_wrapped text_layout.layout splice.place.0 (replaced_line_count splice) (new_line_count splice)) (record (all_wrapped text_layout.layout.settings text_layout.layout.count after) { origins = text_layout.layout.origins })) {
+      origins = option_map (λ (origins : Origins). origins_spliced origins splice) text_layout.layout.origins;
+    }
 
 settings_if : (b : Bool) (text_layout : TextAndLayout) (splice : Splice) (after : ℕ) → (layout_if b text_layout splice after).settings ≡ text_layout.layout.settings
 settings_if true text_layout splice after = refl
@@ -85,7 +88,7 @@ is_spliced one text_layout splice fits = record {
 
 abbrev put_if : Bool → TextAndLayout → LayoutSettings → TextAndLayout
 put_if b text_layout settings =
-    cond b (record { text = text_layout.text; layout = record { settings = settings; count = text_layout.layout.count; ticks = text_layout.layout.ticks } }) (layout_from_scratch settings text_layout.layout.count text_layout.text)
+    cond b (record { text = text_layout.text; layout = record text_layout.layout { settings = settings } }) (rewrapped text_layout settings)
 
 put_is : (text_layout : TextAndLayout) (settings : LayoutSettings) (b : Bool) → keeps_wrapping text_layout settings ≡ b → with_settings text_layout settings ≡ put_if b text_layout settings
 put_is text_layout settings b e = ap (λ (t : Bool). put_if t text_layout settings) e
@@ -115,7 +118,7 @@ is_widened text_layout inner_width =
 
 -- ---- the count
 
-two_widths : (one other : Option ℕ) → (one ≡ other) ⊎ (one ≢ other)
+pub two_widths : (one other : Option ℕ) → (one ≡ other) ⊎ (one ≢ other)
 two_widths None None = inl refl
 two_widths None (Some width) = inr (λ e. cc)
 two_widths (Some width) None = inr (λ e. cc)

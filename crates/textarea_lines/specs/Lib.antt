@@ -4,5 +4,8 @@ pub mod Stored
 pub mod Replacing
 pub mod TextRows
 pub mod View
+pub mod OriginVectors
 pub mod LineWraps
+pub mod AtOnce
+pub mod RowsAtOnce
 pub mod Prelude

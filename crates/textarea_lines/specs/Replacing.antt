@@ -1,5 +1,5 @@
 -- The condition of a replacement of lines, and what is prepared for it.
-use Rattle.std.specs.Prelude.{◌≡◌, ℕ, ◌+◌, ◌^◌, ◌<◌, ◌≤◌, List, String, length, vec_len}
+use Rattle.std.specs.Prelude.{◌≡◌, ℕ, ◌+◌, ◌^◌, ◌<◌, ◌≤◌, List, Option, String, length, vec_len}
 use Rattle.std.specs.declared.alloc.Global.{Global}
 use Rattle.textarea_text.specs.Text.{lines_of}
 use Rattle.textarea_text.specs.declared.rows.Replacement.{Replacement}
@@ -8,7 +8,7 @@ use Rattle.textarea_screen_map.specs.Map.{MapView}
 use Rattle.textarea_screen_map.specs.Prepared.{CanPutRows, rows_with}
 use Rattle.textarea_screen_map.specs.declared.screen_map.PreparedRows.{PreparedRows}
 use Rattle.textarea_lines.specs.declared.settings.LayoutSettings.{LayoutSettings}
-use Rattle.textarea_lines.specs.TextLayout.{after_replacement, count_after, layout_of, lines_after}
+use Rattle.textarea_lines.specs.TextLayout.{Origins, after_replacement, count_after, layout_of, lines_after}
 use Rattle.textarea_lines.specs.Wrappings.{wrapping_for}
 
 -- the map has the rows of the lines, wrapped by the settings, and the replacement is within them
@@ -23,5 +23,5 @@ pub record AreReadyRows (settings : LayoutSettings) (lines : List (String Global
   pub ready : CanPutRows map prepared
   pub wrapping : prepared.wrapping ≡ wrapping_for settings (count_after (length lines) replacement)
   pub rows : AreRowsOf prepared.wrapping (lines_after lines replacement) (rows_with map.rows prepared)
-  pub layout : layout_of settings after (rows_with map.rows prepared)
-      ≡ after_replacement (layout_of settings count map.rows) (length lines) replacement.row replacement.count (vec_len replacement.lines)
+  pub layout : (origins : Option Origins) → layout_of settings after (rows_with map.rows prepared) origins
+      ≡ after_replacement (layout_of settings count map.rows origins) (length lines) replacement.row replacement.count (vec_len replacement.lines)

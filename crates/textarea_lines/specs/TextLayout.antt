@@ -1,5 +1,5 @@
 -- What contracts see of lines with their rows, and how a change of the text changes it.
-use Rattle.std.specs.Prelude.{ℕ, ◌+◌, ◌-◌, Bool, List, String, length, vec_len, if◌then◌else◌}
+use Rattle.std.specs.Prelude.{ℕ, ◌+◌, ◌-◌, Bool, List, String, Option, None, length, option_map, replicate, Vec, vec_len, if◌then◌else◌}
 use Rattle.std.specs.declared.alloc.Global.{Global}
 use Rattle.textarea_text.specs.Text.{Symbol, joined, lines, lines_of}
 use Rattle.textarea_util.specs.Replaced.{replaced}
@@ -12,24 +12,39 @@ use Rattle.textarea_screen_map.specs.declared.layout.Wrapping.{Wrapping}
 use Rattle.textarea_lines.specs.declared.settings.LayoutSettings.{LayoutSettings}
 use Rattle.textarea_lines.specs.Wrappings.{wrapped_at_width, is_same_wrapping, wrapping_for}
 
+-- Where lines come from: for each the number, from 0, of the line that it was when lines were
+-- numbered, or `None` if a splice touched it since.
+abbrev pub Origins : Type 0
+Origins = List (Option ℕ)
+
 -- The settings, the number of lines wrapped so far, and for each line the counter's number after
--- the call that wrapped it. The rows are not included: they are right for the current text.
+-- the call that wrapped it; if lines are numbered, also where they come from. The rows are not
+-- included: they are right for the current text.
 pub record Layout : Type 0 where
   pub settings : LayoutSettings
   pub count : ℕ
   pub ticks : List ℕ
+  pub origins : Option Origins
+
+-- where the lines of a text come from, as it stores that
+abbrev pub origins_of : {A : Type 0} → Option (Vec (Option ℕ) A) → Option Origins
+origins_of {A} origins = option_map (λ (v : Vec (Option ℕ) A). v.items) origins
 
 -- the layout of a text with these rows
-abbrev pub layout_of : LayoutSettings → ℕ → List RowsView → Layout
-layout_of settings count rows = record { settings = settings; count = count; ticks = ticks_of rows }
+abbrev pub layout_of : LayoutSettings → ℕ → List RowsView → Option Origins → Layout
+layout_of settings count rows origins = record { settings = settings; count = count; ticks = ticks_of rows; origins = origins }
 
 pub record TextAndLayout : Type 0 where
   pub text : List Symbol
   pub layout : Layout
 
--- all `line_count` lines are wrapped, from the first on
+-- the text with another account of where its lines come from
+abbrev pub with_origins : TextAndLayout → Option Origins → TextAndLayout
+with_origins text_layout origins = record { text = text_layout.text; layout = record text_layout.layout { origins = origins } }
+
+-- all `line_count` lines are wrapped, from the first on, and not numbered
 abbrev pub all_wrapped : LayoutSettings → ℕ → ℕ → Layout
-all_wrapped settings count line_count = record { settings = settings; count = count + line_count; ticks = ticks_after count line_count }
+all_wrapped settings count line_count = record { settings = settings; count = count + line_count; ticks = ticks_after count line_count; origins = None }
 
 -- `coming` lines are wrapped and replace those from the row on; all others keep their rows
 abbrev pub some_wrapped : Layout → ℕ → ℕ → ℕ → Layout
@@ -37,17 +52,36 @@ some_wrapped layout row removed_lines coming = record {
   settings = layout.settings;
   count = layout.count + coming;
   ticks = replaced layout.ticks row removed_lines (ticks_after layout.count coming);
+  origins = layout.origins;
 }
 
--- Some lines are replaced: only these are wrapped, or all lines if the wrapping changes.
+-- Some lines are replaced: only these are wrapped, or all lines if the wrapping changes. What the
+-- layout tells of where lines come from doesn't change.
 abbrev pub after_replacement : Layout → ℕ → ℕ → ℕ → ℕ → Layout
 after_replacement layout line_count row removed_lines coming =
     let after : ℕ = line_count - removed_lines + coming in
-    if is_same_wrapping (wrapping_for layout.settings after) (wrapping_for layout.settings line_count) then some_wrapped layout row removed_lines coming else all_wrapped layout.settings layout.count after
+    if is_same_wrapping (wrapping_for layout.settings after) (wrapping_for layout.settings line_count) then some_wrapped layout row removed_lines coming else (record (all_wrapped layout.settings layout.count after) { origins = layout.origins })
+
+-- where lines come from, after some are replaced by `coming` lines
+abbrev pub origins_replaced : Origins → ℕ → ℕ → ℕ → Origins
+origins_replaced origins row removed_lines coming = replaced origins row removed_lines (replicate coming None)
+
+-- where lines come from, after a splice
+abbrev pub origins_spliced : Origins → Splice → Origins
+origins_spliced origins splice = origins_replaced origins splice.place.0 (replaced_line_count splice) (new_line_count splice)
+
+-- the layout of a text of `line_count` lines after a splice, but for where lines come from
+abbrev pub after_lines_spliced : Layout → ℕ → Splice → Layout
+after_lines_spliced layout line_count splice = after_replacement layout line_count splice.place.0 (replaced_line_count splice) (new_line_count splice)
 
 -- the layout of a text of `line_count` lines after a splice
 abbrev pub after_splice : Layout → ℕ → Splice → Layout
-after_splice layout line_count splice = after_replacement layout line_count splice.place.0 (replaced_line_count splice) (new_line_count splice)
+after_splice layout line_count splice =
+    record (after_lines_spliced layout line_count splice) { origins = option_map (λ (origins : Origins). origins_spliced origins splice) layout.origins }
+
+-- the text and its layout after a splice, but for where lines come from
+abbrev pub lines_spliced : TextAndLayout → Splice → TextAndLayout
+lines_spliced text_layout splice = record { text = applied text_layout.text splice; layout = after_lines_spliced text_layout.layout (length (lines text_layout.text)) splice }
 
 -- the text and its layout after a splice
 abbrev pub applied_to : TextAndLayout → Splice → TextAndLayout
@@ -100,9 +134,16 @@ at_width text_layout inner_width = record {
   inner_width = inner_width;
 }
 
+-- all lines are wrapped again, by these settings
+abbrev pub rewrapped : TextAndLayout → LayoutSettings → TextAndLayout
+rewrapped text_layout settings = record {
+  text = text_layout.text;
+  layout = record (all_wrapped settings text_layout.layout.count (length (lines text_layout.text))) { origins = text_layout.layout.origins };
+}
+
 -- the text with other settings; all lines are wrapped again if these wrap them in another way
 abbrev pub with_settings : TextAndLayout → LayoutSettings → TextAndLayout
 with_settings text_layout settings =
     if keeps_wrapping text_layout settings then
-    (record { text = text_layout.text; layout = record { settings = settings; count = text_layout.layout.count; ticks = text_layout.layout.ticks } })
-    else layout_from_scratch settings text_layout.layout.count text_layout.text
+    (record { text = text_layout.text; layout = record text_layout.layout { settings = settings } })
+    else rewrapped text_layout settings

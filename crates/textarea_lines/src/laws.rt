@@ -1,6 +1,6 @@
 //! Laws of lines with their visual rows. Each is the contract of a function without effect.
 ghost use Rattle.std.specs.Prelude.{◌≡◌, ◌<◌, ◌≤◌, ℕ, List, Option};
-ghost use Rattle.textarea_lines.specs.Prelude.{Place, Fits, Splice, Symbol, RowsView, IsFoundAbove, IsFoundBelow, HasLayout, WrapsForSplices, WrapsAllLines, WrapsForSettings, WrapsForSplice, WrapsForWidth, TextAndLayout, applied_to, at_width, layout_from_scratch, with_settings, wrapping_at, wrapping_of, BorrowedRows, IsViewOf, LayoutSettings};
+ghost use Rattle.textarea_lines.specs.Prelude.{Place, CanApply, Fits, Splice, Symbol, RowsView, IsFoundAbove, IsFoundBelow, HasLayout, IsChangedFrom, WrapsAtOnce, applied_each, numbered, wrapped_once, WrapsForSplices, WrapsAllLines, WrapsForSettings, WrapsForSplice, WrapsForWidth, TextAndLayout, applied_to, at_width, layout_from_scratch, with_settings, wrapping_at, wrapping_of, BorrowedRows, IsViewOf, LayoutSettings};
 
 use textarea_screen_map::laws::{one_map, one_visual_position};
 
@@ -63,6 +63,27 @@ pub fn splices_wrap()
     one_map();
 }
 
+/// What splices wrap that are made at once, on the numbered lines. If they don't change the width of
+/// the map, each line that one of them touched is wrapped once, all other lines keep their rows,
+/// tick included, and the count increases by the number of touched lines. If they change it, each
+/// line is wrapped once.
+pub fn splices_wrap_at_once()
+    ensures { (text_layout : TextAndLayout) (splices : List Splice) →
+        CanApply text_layout.text splices → WrapsAtOnce text_layout splices
+        (wrapped_once text_layout (applied_each (numbered text_layout) splices)) }
+{
+    one_map();
+}
+
+/// What `wrapped_once` takes: the numbered lines, and what a change makes of such lines.
+pub fn changes_of_numbered()
+    ensures none { (text_layout : TextAndLayout) →
+        IsChangedFrom text_layout (numbered text_layout) }
+    ensures more { (before changed : TextAndLayout) (splice : Splice) →
+        IsChangedFrom before changed → Fits changed.text splice →
+        IsChangedFrom before (applied_to changed splice) }
+{}
+
 /// The other calls that wrap lines. Another inner width wraps each line if it changes the width of
 /// the map, other settings if they change how lines are wrapped, and replacing all lines always.
 /// The count then increases by the number of lines. Otherwise count and ticks don't change.
@@ -81,6 +102,8 @@ pub fn count_never_falls()
     ensures splices { (old new : TextAndLayout) (splices : List Splice) → WrapsForSplices old
         splices new →
         old.layout.count ≤ new.layout.count }
+    ensures at_once { (old new : TextAndLayout) (splices : List Splice) → WrapsAtOnce old splices
+        new → old.layout.count ≤ new.layout.count }
     ensures width { (old new : TextAndLayout) → WrapsForWidth old new →
         old.layout.count ≤ new.layout.count }
     ensures settings { (old new : TextAndLayout) (settings : LayoutSettings) →

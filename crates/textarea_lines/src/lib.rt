@@ -2,6 +2,8 @@
 #![tactic(auto)]
 
 pub mod laws;
+mod origins;
 mod rewrap;
+mod rows_at_once;
 pub mod settings;
 pub mod text_layout;

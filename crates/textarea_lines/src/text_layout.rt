@@ -1,9 +1,11 @@
 //! The lines of a text with their visual rows.
+mod at_once;
 mod width;
 
-ghost use Rattle.std.specs.Prelude.{◌≡◌, ◌+◌, ◌-◌, ◌<◌, ◌≤◌, ◌↔◌, [], length, vec_len, false, true, IfOk, IfSome, IsOk, IsTrue, OnErr, OnOk, if◌then◌else◌};
-ghost use Rattle.textarea_lines.specs.Prelude.{size_limit, offset_at, Place, IsPlace, size_of, weight, Fits, applied, lines, lines_of, text_of, breaks_of, row_total, IsRowCount, IsVisualPosition, IsFoundAbove, IsFoundBelow, IsRowCountAt, OfRows, applied_to, is_wrapped_at, layout_from_scratch, with_settings, keeps_wrapping, with_replacement, size_after, is_wrapped};
+ghost use Rattle.std.specs.Prelude.{◌≡◌, ◌+◌, ◌-◌, ◌<◌, ◌≤◌, ◌↔◌, [], length, option_map, vec_len, false, true, None, IfOk, IfSome, IsOk, IsTrue, OnErr, OnOk, if◌then◌else◌};
+ghost use Rattle.textarea_lines.specs.Prelude.{size_limit, offset_at, Place, IsPlace, size_of, weight, Fits, applied, lines, lines_of, text_of, breaks_of, row_total, IsRowCount, IsVisualPosition, IsFoundAbove, IsFoundBelow, IsRowCountAt, OfRows, applied_to, lines_spliced, origins_of, origins_spliced, with_origins, is_wrapped_at, layout_from_scratch, with_settings, keeps_wrapping, with_replacement, size_after, is_wrapped};
 
+use crate::origins::{Origins, copy_origins, prepare_origins, put_origins, touched_lines};
 use crate::rewrap::{Measured, WrappedRows, drop_measured, prepare_rows_for, put_whole_line};
 use crate::settings::{LayoutSettings, is_same, is_wrapped, wrapping_at, wrapping_for};
 use std::alloc::{AllocError, Global};
@@ -35,11 +37,12 @@ pub struct TextLayout {
     cached: Option<WrappedRows>,
     found: Pos,
     marks: LineMarks,
+    origins: Origins,
 }
 
 impl Model for TextLayout {
     ghost use Rattle.textarea_text.specs.Text.{text_of};
-    ghost use Rattle.textarea_lines.specs.TextLayout.{TextAndLayout, layout_of};
+    ghost use Rattle.textarea_lines.specs.TextLayout.{TextAndLayout, layout_of, origins_of};
 
     ghost Value = { TextAndLayout };
 
@@ -47,7 +50,8 @@ impl Model for TextLayout {
 
     ghost view = { λ text_layout. record {
       text = text_of text_layout.lines.items;
-      layout = layout_of text_layout.settings text_layout.count text_layout.map.rows;
+      layout = layout_of text_layout.settings text_layout.count text_layout.map.rows
+          (origins_of text_layout.origins);
     } };
 
     ghost invariant = { λ text_layout.
@@ -66,6 +70,7 @@ impl Clone for TextLayout {
         let count = self.count.clone()?;
         let found = Pos::new(self.found.row, self.found.col, self.found.offset);
         let marks = LineMarks::new(*self.lines.allocator());
+        let origins = copy_origins(&self.origins)?;
         Ok(TextLayout {
             lines,
             size: self.size,
@@ -76,6 +81,7 @@ impl Clone for TextLayout {
             cached: None,
             found,
             marks,
+            origins,
         })
     }
 }
@@ -125,6 +131,7 @@ impl TextLayout {
             cached: None,
             found,
             marks,
+            origins: None,
         })
     }
 
@@ -331,6 +338,51 @@ impl TextLayout {
         ensures ok { OnOk result (self.new ≡ applied_to self.old change.entry) }
         ensures err { OnErr result (self.new ≡ self.old) }
     {
+        let mut origins = self.take_origins();
+        let made = self.apply_with(change, &mut origins);
+        self.set_origins(origins);
+        made
+    }
+
+    // Takes out where lines come from.
+    fn take_origins(&mut self) -> Origins
+        ensures rest { self.new ≡ with_origins self.old None }
+        ensures taken { origins_of result ≡ self.old.layout.origins }
+    {
+        self.origins.take()
+    }
+
+    // Sets where lines come from.
+    fn set_origins(&mut self, origins: Origins)
+        ensures { self.new ≡ with_origins self.old (origins_of origins) }
+    {
+        self.origins = origins;
+    }
+
+    // Makes a change that fits the text, also in what is taken out of it.
+    fn apply_with(&mut self, change: Change<'_>, origins: &mut Origins) -> Result<(), AllocError>
+        requires { Fits self.old.text change }
+        ensures ok { OnOk result (self.new ≡ lines_spliced self.old change.entry) }
+        ensures origins { OnOk result (origins_of origins.new
+            ≡ option_map (λ origins. origins_spliced origins change.entry)
+            (origins_of origins.old)) }
+        ensures err { OnErr result (self.new ≡ self.old) }
+        ensures origins_stay { OnErr result (origins_of origins.new ≡ origins_of origins.old) }
+    {
+        let alloc = self.allocator();
+        let (row, gone, come) = touched_lines(&change)?;
+        let new = prepare_origins(alloc, origins, row, gone, come)?;
+        self.apply_to_lines(change)?;
+        put_origins(origins, row, gone, new);
+        Ok(())
+    }
+
+    // Makes a change that fits the text. Where lines come from doesn't change yet.
+    fn apply_to_lines(&mut self, change: Change<'_>) -> Result<(), AllocError>
+        requires { Fits self.old.text change }
+        ensures ok { OnOk result (self.new ≡ lines_spliced self.old change.entry) }
+        ensures err { OnErr result (self.new ≡ self.old) }
+    {
         let size = size_after(self.size, &change)?;
         if !is_wrapped(self.settings) && change.is_inside_line() {
             return self.apply_inside(change, size);
@@ -343,7 +395,7 @@ impl TextLayout {
         requires fits { Fits self.old.text change }
         requires size { size ≡ weight (applied self.old.text change) + 1 }
         requires limit { size ≤ size_limit }
-        ensures ok { OnOk result (self.new ≡ applied_to self.old change.entry) }
+        ensures ok { OnOk result (self.new ≡ lines_spliced self.old change.entry) }
         ensures err { OnErr result (self.new ≡ self.old) }
     {
         let alloc = *self.lines.allocator();
@@ -359,7 +411,7 @@ impl TextLayout {
         requires whole { is_wrapped self.old.layout.settings ≡ false }
         requires size { size ≡ weight (applied self.old.text change) + 1 }
         requires limit { size ≤ size_limit }
-        ensures ok { OnOk result (self.new ≡ applied_to self.old change.entry) }
+        ensures ok { OnOk result (self.new ≡ lines_spliced self.old change.entry) }
         ensures err { OnErr result (self.new ≡ self.old) }
     {
         let (row, column) = change.start();

@@ -1,5 +1,5 @@
 //! The visual rows of each line of a text, in blocks of lines. They count from 0 over all lines.
-ghost use Rattle.std.specs.Prelude.{◌≡◌, ◌+◌, ◌*◌, ◌<◌, ◌≤◌, ◌↔◌, ◌∷◌, [], ℕ, List, chars, length, max, min, take, IfOk, IsOk, OnErr, OnOk};
+ghost use Rattle.std.specs.Prelude.{◌≡◌, ◌+◌, ◌*◌, ◌<◌, ◌≤◌, ◌↔◌, ◌∷◌, [], ℕ, List, chars, length, max, min, slice_get, take, IfOk, Some, IsOk, OnErr, OnOk};
 ghost use Rattle.textarea_screen_map.specs.Prelude.{size_limit, replaced, size_of, lines_of, AreRowsOf, ticks_after, ticks_of, with_tab_len, IsEdge, all_rows, IsWithinLimit, marks_at, ranges_at, row_total, size_total, HasRoom, CanPutRows, IsPreparedFor, rows_in, rows_with};
 ghost use Rattle.textarea_wrap.specs.Marks.{marks_of};
 ghost use Rattle.textarea_wrap.specs.WrapResult.{IsWrapped};
@@ -161,6 +161,23 @@ impl ScreenMap {
         let mut blocks = RowBlocks::new(alloc);
         push_lines(alloc, &mut blocks, lines, wrapping, counter)?;
         let total = blocks.row_count();
+        Ok(ScreenMap {
+            blocks,
+            total,
+            size,
+            wrapping,
+        })
+    }
+
+    /// Returns a map with these rows, of this wrapping. Wraps no line. Out of memory above 2^48 bytes
+    /// and lines.
+    pub fn of_rows(blocks: RowBlocks, wrapping: Wrapping) -> Result<ScreenMap, AllocError>
+        ensures rows { IfOk result (λ map. map.rows ≡ all_rows blocks.blocks) }
+        ensures wrapping { IfOk result (λ map. map.wrapping ≡ wrapping) }
+    {
+        let (rows, size) = blocks.sums_of(0, blocks.line_count());
+        let size = within_limit(size)?;
+        let total = within_limit(rows)?;
         Ok(ScreenMap {
             blocks,
             total,
@@ -378,10 +395,12 @@ impl ScreenMap {
         self.blocks.line_of_row(row)
     }
 
-    pub(crate) fn rows_at(&self, line: usize) -> &Rows
+    /// Returns the visual rows of a line.
+    pub fn rows_at(&self, line: usize) -> &Rows
         requires { line < length self.now.rows }
         ensures ranges { result.now.ranges ≡ ranges_at self.now.rows line }
         ensures marks { result.now.marks ≡ marks_at self.now.rows line }
+        ensures rows { slice_get self.now.rows line ≡ Some result.now }
     {
         self.blocks.rows_at(line)
     }

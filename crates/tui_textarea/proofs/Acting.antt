@@ -49,7 +49,7 @@ use Rattle.tui_textarea.specs.Units.{settled, whole_stretch}
 use Rattle.tui_textarea.proofs.Cases.{by_both, by_test}
 use Rattle.tui_textarea.proofs.Settling.{begun_unchanged, ended_unchanged, layout_and_ranges, settled_layout, sound_settled}
 use Rattle.tui_textarea.proofs.FoundPlaces.{match_is_place}
-use Rattle.tui_textarea.proofs.Replacing.{all_by, lines_down_by, lines_shifted_by, lines_up_by, match_by, range_by, search_unchanged}
+use Rattle.tui_textarea.proofs.Replacing.{AtOnce, all_once, lines_down_by, lines_shifted_once, lines_up_by, match_by, range_by, search_unchanged}
 use Rattle.tui_textarea.proofs.SoundStates.{sound_at, sound_cursor, sound_from, sound_goes, sound_ranges, sound_search, sound_settings, sound_unanchored}
 use Rattle.textarea_document.proofs.UndoGroups.{sound_redo, sound_undo}
 use Rattle.tui_textarea.proofs.Stepping.{Reckoning, ahead_by, break_by, char_by, cleared_by, copied_by, cursor_range_by, cut_by, edited, kept, moved}
@@ -82,37 +82,40 @@ as_outcome By old new outcome splices is h = subst (λ (s : State). By old.docum
 pub record Past (Own : Fact) : Type 0 where
   pub undos : (document : DocumentState) → IsSound document → Own document (undo_splices document) (after_undo document)
   pub redos : (document : DocumentState) → IsSound document → Own document (redo_splices document) (after_redo document)
-  pub stays : (document : DocumentState) → Own document [] document
+  pub stays : (document : DocumentState) → IsSound document → Own document [] document
   pub same : (old new other : DocumentState) (splices : List Splice) → layout_and_ranges other ≡ layout_and_ranges new → Own old splices new → Own old splices other
 
 -- ---- calls
 
--- the fact of a call, by its splices and the state after it: an undo and a redo have one of their
--- own, and of calls that replace lines, ranges, the log of changes or the layout, and of inputs,
--- nothing is stated
-abbrev pub ByState : Fact → Fact → Call → DocumentState → List Splice → DocumentState → Type 0
-ByState By Past call.Undo old splices new = Past old splices new
-ByState By Past call.Redo old splices new = Past old splices new
-ByState By Past (call.Input input) old splices new = Unit {0}
-ByState By Past (call.InputWithoutShortcuts input) old splices new = Unit {0}
-ByState By Past (call.SetLines lines cursor) old splices new = Unit {0}
-ByState By Past (call.SetTabLength columns) old splices new = Unit {0}
-ByState By Past (call.SetWrapMode mode) old splices new = Unit {0}
-ByState By Past (call.SetLineNumberStyle style) old splices new = Unit {0}
-ByState By Past call.RemoveLineNumber old splices new = Unit {0}
-ByState By Past (call.SetAlignment alignment) old splices new = Unit {0}
-ByState By Past (call.TrySetAtomicRanges ranges) old splices new = Unit {0}
-ByState By Past call.ClearAtomicRanges old splices new = Unit {0}
-ByState By Past (call.SetChangeLog unit) old splices new = Unit {0}
-ByState By Past call.TakeChanges old splices new = Unit {0}
-ByState By Past (call.Render area) old splices new = Unit {0}
-ByState By Past made old splices new = By old splices new
+-- the fact of a call, by its splices and the state after it: calls that replace stretches at once
+-- have one of their own, an undo and a redo too, and of calls that replace lines, ranges, the log of
+-- changes or the layout, and of inputs, nothing is stated
+abbrev pub ByState : Fact → Fact → Fact → Call → DocumentState → List Splice → DocumentState → Type 0
+ByState By Once Past call.Undo old splices new = Past old splices new
+ByState By Once Past call.Redo old splices new = Past old splices new
+ByState By Once Past call.IndentLines old splices new = Once old splices new
+ByState By Once Past call.OutdentLines old splices new = Once old splices new
+ByState By Once Past (call.ReplaceAll text) old splices new = Once old splices new
+ByState By Once Past (call.Input input) old splices new = Unit {0}
+ByState By Once Past (call.InputWithoutShortcuts input) old splices new = Unit {0}
+ByState By Once Past (call.SetLines lines cursor) old splices new = Unit {0}
+ByState By Once Past (call.SetTabLength columns) old splices new = Unit {0}
+ByState By Once Past (call.SetWrapMode mode) old splices new = Unit {0}
+ByState By Once Past (call.SetLineNumberStyle style) old splices new = Unit {0}
+ByState By Once Past call.RemoveLineNumber old splices new = Unit {0}
+ByState By Once Past (call.SetAlignment alignment) old splices new = Unit {0}
+ByState By Once Past (call.TrySetAtomicRanges ranges) old splices new = Unit {0}
+ByState By Once Past call.ClearAtomicRanges old splices new = Unit {0}
+ByState By Once Past (call.SetChangeLog unit) old splices new = Unit {0}
+ByState By Once Past call.TakeChanges old splices new = Unit {0}
+ByState By Once Past (call.Render area) old splices new = Unit {0}
+ByState By Once Past made old splices new = By old splices new
 
 -- the same, of an input by its action
-abbrev pub ByCall : Fact → Fact → Call → DocumentState → List Splice → DocumentState → Type 0
-ByCall By Past (call.Input input) old splices new = ByAct By Past (asked_by input.now) old splices new
-ByCall By Past (call.InputWithoutShortcuts input) old splices new = ByAct By Past (asked_without_shortcuts input.now) old splices new
-ByCall By Past made old splices new = ByState By Past made old splices new
+abbrev pub ByCall : Fact → Fact → Fact → Call → DocumentState → List Splice → DocumentState → Type 0
+ByCall By Once Past (call.Input input) old splices new = ByAct By Past (asked_by input.now) old splices new
+ByCall By Once Past (call.InputWithoutShortcuts input) old splices new = ByAct By Past (asked_without_shortcuts input.now) old splices new
+ByCall By Once Past made old splices new = ByState By Once Past made old splices new
 
 -- the call of an action that has one
 abbrev pub the_call : Action → Call
@@ -126,18 +129,21 @@ pattern_unchanged state text returned = refl
 given : {A B : Type 0} (Condition : Type 0) → A × B → A × (Condition → B)
 given Condition both = (both.0, λ condition. both.1)
 
-module _ (By Own : Fact) (by : Reckoning By) (past : Past Own) where
+module _ (By Once Own : Fact) (by : Reckoning By) (once : AtOnce Once) (past : Past Own) where
   -- the fact of a call with these splices and this state after it, which is sound if the call can be
   -- made
   abbrev ByCallSoundly : State → Call → List Splice → State → Type 0
   ByCallSoundly old made splices new =
-      ByState By Own made old.document splices new.document × (CanBeMade made → IsSound new.document)
+      ByState By Once Own made old.document splices new.document × (CanBeMade made → IsSound new.document)
 
   -- what is known of a document is known of it with another cursor and anchor
   same_by : (made : Call) (old new other : DocumentState) (splices : List Splice) → layout_and_ranges other ≡ layout_and_ranges new
-      → ByState By Own made old splices new → ByState By Own made old splices other
+      → ByState By Once Own made old splices new → ByState By Once Own made old splices other
   same_by call.Undo old new other splices same k = past.same old new other splices same k
   same_by call.Redo old new other splices same k = past.same old new other splices same k
+  same_by call.IndentLines old new other splices same k = once.same old new other splices same k
+  same_by call.OutdentLines old new other splices same k = once.same old new other splices same k
+  same_by (call.ReplaceAll text) old new other splices same k = once.same old new other splices same k
   same_by (call.Input input) old new other splices same k = tt
   same_by (call.InputWithoutShortcuts input) old new other splices same k = tt
   same_by (call.SetLines lines cursor) old new other splices same k = tt
@@ -175,17 +181,17 @@ module _ (By Own : Fact) (by : Reckoning By) (past : Past Own) where
       given _ (moved By by document (after_edit document (selection_duplication document) false old.time) (lines_duplicated document old.time) (selection_duplication document ∷ []) refl
       (sound_duplicated document old.time h) once)
   unguarded_by old call.IndentLines h =
-      given _ (lines_shifted_by By by old.document None (line_stretches old.document None) (tab_of old.document old.settings.hard_tab_indent) old.time h)
+      given _ (lines_shifted_once Once once old.document None (line_stretches old.document None) (tab_of old.document old.settings.hard_tab_indent) old.time h)
   unguarded_by old call.OutdentLines h =
       let by_clusters = Some old.settings.cursor_unit in
-      given _ (lines_shifted_by By by old.document by_clusters (line_stretches old.document by_clusters) [] old.time h)
+      given _ (lines_shifted_once Once once old.document by_clusters (line_stretches old.document by_clusters) [] old.time h)
   unguarded_by old call.MoveLinesUp h = given _ (lines_up_by By by old.document old.time h)
   unguarded_by old call.MoveLinesDown h = given _ (lines_down_by By by old.document old.time h)
   unguarded_by old (call.ReplaceRange from to text) h =
       let ends = whole_stretch old from to in
       given _ (range_by By by old.document ends.0 ends.1 (admitted_whole old from to (fragment_symbols (chars text.now))) old.time h)
   unguarded_by old (call.ReplaceMatch text) h = given _ (match_by By by old (match_at_cursor old) (admitted_for (match_at_cursor old) old (fragment_symbols (chars text.now))) h)
-  unguarded_by old (call.ReplaceAll text) h = given _ (all_by By by old.document (replaceable old) (admitted old (fragment_symbols (chars text.now))) old.time h)
+  unguarded_by old (call.ReplaceAll text) h = given _ (all_once Once once old.document (replaceable old) (admitted old (fragment_symbols (chars text.now))) old.time h)
   unguarded_by old (call.DeleteStr count) h = given _ (unselected_by By by old (symbols_ahead_removed old count) _ h (ahead_by By by old count h))
   unguarded_by old call.DeleteNewline h = given _ (unselected_by By by old (break_before_removed old) _ h (break_by By by old.document old.time h))
   unguarded_by old call.DeleteChar h =
@@ -284,8 +290,11 @@ module _ (By Own : Fact) (by : Reckoning By) (past : Past Own) where
   -- a call that edits, in a text area that is read only
   barred_by : (old : State) (made : Call) → IsSound old.document → ByCallSoundly old made [] (barred_after old made)
   barred_by old call.Cut h = given _ (copied_by By by old h)
-  barred_by old call.Undo h = (past.stays old.document, λ can. h)
-  barred_by old call.Redo h = (past.stays old.document, λ can. h)
+  barred_by old call.Undo h = (past.stays old.document h, λ can. h)
+  barred_by old call.Redo h = (past.stays old.document h, λ can. h)
+  barred_by old call.IndentLines h = (once.stays old.document h, λ can. h)
+  barred_by old call.OutdentLines h = (once.stays old.document h, λ can. h)
+  barred_by old (call.ReplaceAll text) h = (once.stays old.document h, λ can. h)
   barred_by old (call.Input input) h = (tt, λ can. h)
   barred_by old (call.InputWithoutShortcuts input) h = (tt, λ can. h)
   barred_by old (call.SetLines items cursor) h = (tt, λ can. h)
@@ -321,7 +330,7 @@ module _ (By Own : Fact) (by : Reckoning By) (past : Past Own) where
   acts_by old new asked h k = as_outcome By old new (state_after old (the_call asked)) (splices_by old asked) k (by_state old (the_call asked) h).0
 
   pub calls_by : (old new : State) (made : Call) (returned : CallResult) → IsSound old.document → IsAfterCall old made returned new
-      → ByCall By Own made old.document (splices_of old made) new.document
+      → ByCall By Once Own made old.document (splices_of old made) new.document
   calls_by old new (call.Input input) returned h k = acts_by old new (asked_by input.now) h k
   calls_by old new (call.InputWithoutShortcuts input) returned h k = acts_by old new (asked_without_shortcuts input.now) h k
   calls_by old new (call.Move cursor_move) returned h k = acts_by old new (action.MoveWithShift cursor_move (is_some old.document.anchor)) h k
@@ -331,7 +340,7 @@ module _ (By Own : Fact) (by : Reckoning By) (past : Past Own) where
   calls_by old new (call.SetSearchText text ignore_case whole_word) returned h k =
       by.none old.document new.document (ap (λ (s : State). layout_and_ranges s.document) k ∙ pattern_unchanged old (text_pattern text.now ignore_case whole_word) returned)
   calls_by old new (call.Render area) returned h k = tt
-  calls_by old new made returned h k = as_outcome (ByState By Own made) old new (state_after old made) (splices_of old made) k (by_state old made h).0
+  calls_by old new made returned h k = as_outcome (ByState By Once Own made) old new (state_after old made) (splices_of old made) k (by_state old made h).0
 
 -- ---- calls that run out of memory
 

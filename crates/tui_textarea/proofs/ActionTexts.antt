@@ -21,7 +21,7 @@ use Rattle.tui_textarea.specs.Splices.{str_splices}
 use Rattle.tui_textarea.specs.State.{State}
 use Rattle.tui_textarea.proofs.Acting.{ByAct, acts_by, any_left}
 use Rattle.tui_textarea.proofs.EachSymbol.{InsertOnly, only_after_splices, only_delete_char, only_delete_next_char, only_line_end, only_line_head, only_selected, only_str, only_tab, only_unless, only_word_after, only_word_before}
-use Rattle.tui_textarea.proofs.RangesOverActions.{past_follows, reckoning_of}
+use Rattle.tui_textarea.proofs.RangesOverActions.{at_once_of, past_follows, reckoning_of}
 use Rattle.tui_textarea.proofs.RangesOverCalls.{TheLaws}
 use Rattle.tui_textarea.proofs.Runs.{OneInput}
 use Rattle.textarea_data.specs.declared.range.AtomicCursorBias.TheVariants.{Forward}
@@ -41,7 +41,7 @@ whole asked old new splices h = h.0.text
 made_follows : (laws : TheLaws) (old new : State) (asked : Action) → IsSound old.document → IsAfterAction old asked new → IsTextBefore old.document.text new.document.text (splices_by old asked)
 made_follows laws old new asked sound made =
     whole asked old.document new.document (splices_by old asked)
-    (acts_by RangesStayWhole RangesFollowPast (reckoning_of laws.edited) (past_follows laws.undone laws.redone) old new asked sound made)
+    (acts_by RangesStayWhole RangesStayWhole RangesFollowPast (reckoning_of laws.edited) (at_once_of laws.edited) (past_follows laws.undone laws.redone) old new asked sound made)
 
 -- the same of an action that ran out of memory: it made no splice, or removed the selected text
 left_follows : (laws : TheLaws) (old new : State) (asked : Action) → IsSound old.document → IsInputOutOfMemory old asked new

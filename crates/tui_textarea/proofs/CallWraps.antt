@@ -1,5 +1,8 @@
 -- The lines that each call wraps, by the laws of the text area; the wrap counter never decreases.
 use Rattle.std.proofs.Common.{◌≡◌, ◌≤◌, ℕ, Bool, List, [], ◌∷◌, cond, true, false, ap, refl, subst, sym, ◌∙◌, ⊎_elim}
+use Rattle.textarea_calls.specs.declared.action.Action.{Action}
+use Rattle.textarea_calls.specs.declared.action.Action.TheVariants as action
+use Rattle.textarea_lines.specs.AtOnce.{WrapsAtOnce}
 use Rattle.textarea_lines.specs.LineWraps.{WrapsForSplices, WrapsAllLines, WrapsForSettings, WrapsForWidth}
 use Rattle.textarea_lines.specs.TextLayout.{TextAndLayout}
 use Rattle.textarea_lines.specs.declared.settings.LayoutSettings.{LayoutSettings}
@@ -9,7 +12,7 @@ use Rattle.textarea_data.specs.declared.range.RejectedAtomicRange.{RejectedAtomi
 use Rattle.textarea_text.specs.Place.{Place}
 use Rattle.textarea_text.specs.Splice.{Splice}
 use Rattle.textarea_text.specs.Text.{Symbol, lines_of, text_of}
-use Rattle.textarea_document.specs.DocumentWraps.{WrapsAll, WrapsBySettings, WrapsByWidth, SplicedBy}
+use Rattle.textarea_document.specs.DocumentWraps.{SplicedAtOnce, SplicedBy, WrapsAll, WrapsBySettings, WrapsByWidth}
 use Rattle.textarea_document.specs.DocumentRows.{text_and_layout}
 use Rattle.textarea_document.specs.Sound.{IsSound}
 use Rattle.textarea_document.specs.Splices.{selected_splices}
@@ -19,7 +22,7 @@ use Rattle.tui_textarea.specs.LayoutCalls.{alignment_set, mode_set, line_numbers
 use Rattle.tui_textarea.specs.State.{State}
 use Rattle.tui_textarea.specs.Calls.{rejected_ranges, with_lines, with_ranges_if}
 use Rattle.tui_textarea.specs.Guards.{bars_lines}
-use Rattle.tui_textarea.specs.CallWraps.{WrapsAllUnless, WrapsByCall}
+use Rattle.tui_textarea.specs.CallWraps.{WrapsAllUnless, WrapsByAct, WrapsByCall}
 use Rattle.tui_textarea.specs.Outcomes.{IsAfterCall, IsAfterOutOfMemory}
 use Rattle.tui_textarea.specs.CallResults.{CallResult}
 use Rattle.tui_textarea.specs.CallSplices.{OfSplicesOutOfMemory, splices_of}
@@ -27,8 +30,8 @@ use Rattle.textarea_calls.specs.declared.call.Call.{Call}
 use Rattle.textarea_calls.specs.declared.call.Call.TheVariants as call
 use Rattle.textarea_document.specs.DocumentRows.{with_inner_width, with_layout_settings}
 use Rattle.textarea_view.specs.Measure.{width_inside}
-use Rattle.tui_textarea.proofs.Acting.{by_any_act, calls_by, calls_left}
-use Rattle.tui_textarea.proofs.WrappedLines.{RedosWrap, EditsWrap, UndosWrap, past_wraps, reckoned}
+use Rattle.tui_textarea.proofs.Acting.{ByAct, ByCall, calls_by, calls_left}
+use Rattle.tui_textarea.proofs.WrappedLines.{EditsWrap, RedosWrap, ReplacementsWrap, UndosWrap, once_wraps, past_wraps, reckoned}
 use Rattle.tui_textarea.proofs.Frames.{drawn_document}
 use Rattle.textarea_data.specs.declared.range.AtomicCursorBias.TheVariants.{Forward}
 use Rattle.tui_textarea.specs.Ranges.{ranges_accepted}
@@ -41,6 +44,7 @@ pub record TheLaws : Type 0 where
   pub edited : EditsWrap
   pub undone : UndosWrap
   pub redone : RedosWrap
+  pub replaced : ReplacementsWrap
   pub width : (document : DocumentState) (inner_width : ℕ) → WrapsByWidth document (with_inner_width document inner_width)
   pub settings : (document : DocumentState) (settings : LayoutSettings) → WrapsBySettings document settings (with_layout_settings document settings)
   pub lines : (document : DocumentState) (text : List Symbol) (cursor : Place) (maximum : ℕ) → WrapsAll document (fresh_document text document.layout.settings document.layout.count cursor maximum)
@@ -64,7 +68,17 @@ lines_wrap : (old new set : State) (barred : Bool) → new ≡ cond barred old s
 lines_wrap old new set true k wraps = ap (λ (s : State). text_and_layout s.document) k
 lines_wrap old new set false k wraps = subst (λ (s : State). WrapsAll old.document s.document) (sym k) wraps
 
+by_act : (asked : Action) (old new : DocumentState) (splices : List Splice) → ByAct SplicedBy SplicedAtOnce asked old splices new → WrapsByAct asked old splices new
+by_act action.Undo old new splices h = h
+by_act action.Redo old new splices h = h
+by_act asked old new splices h = h
+
 module _ (laws : TheLaws) where
+  calls_wrap : (old new : State) (made : Call) (returned : CallResult) → IsSound old.document → IsAfterCall old made returned new
+      → ByCall SplicedBy SplicedAtOnce SplicedAtOnce made old.document (splices_of old made) new.document
+  calls_wrap old new made returned h k =
+      calls_by SplicedBy SplicedAtOnce SplicedAtOnce (reckoned laws.edited) (once_wraps laws.replaced) (past_wraps laws.undone laws.redone laws.replaced) old new made returned h k
+
   set : (old new outcome : State) (settings : LayoutSettings) → new.document ≡ outcome.document → outcome ≡ with_layout old settings → WrapsBySettings old.document settings new.document
   set old new outcome settings same is =
       subst (WrapsBySettings old.document settings) (sym (same ∙ ap (λ (s : State). s.document) is)) (laws.settings old.document settings)
@@ -88,10 +102,10 @@ module _ (laws : TheLaws) where
   call_wraps old new (call.SetChangeLog unit) returned h k = ap (λ (s : State). text_and_layout s.document) k
   call_wraps old new call.TakeChanges returned h k = ap (λ (s : State). text_and_layout s.document) k
   call_wraps old new (call.Input input) returned h k =
-      by_any_act SplicedBy (asked_by input.now) old.document new.document _ (calls_by SplicedBy SplicedBy (reckoned laws.edited) (past_wraps laws.undone laws.redone) old new (call.Input input) returned h k)
+      by_act (asked_by input.now) old.document new.document _ (calls_wrap old new (call.Input input) returned h k)
   call_wraps old new (call.InputWithoutShortcuts input) returned h k =
-      by_any_act SplicedBy (asked_without_shortcuts input.now) old.document new.document _ (calls_by SplicedBy SplicedBy (reckoned laws.edited) (past_wraps laws.undone laws.redone) old new (call.InputWithoutShortcuts input) returned h k)
-  call_wraps old new made returned h k = calls_by SplicedBy SplicedBy (reckoned laws.edited) (past_wraps laws.undone laws.redone) old new made returned h k
+      by_act (asked_without_shortcuts input.now) old.document new.document _ (calls_wrap old new (call.InputWithoutShortcuts input) returned h k)
+  call_wraps old new made returned h k = calls_wrap old new made returned h k
 
   pub out_of_memory_wraps : (old new : State) (made : Call) → IsSound old.document → IsAfterOutOfMemory old made new → LeftBy old new
   out_of_memory_wraps old new made h k = calls_left SplicedBy (reckoned laws.edited) old new made h k
@@ -99,6 +113,7 @@ module _ (laws : TheLaws) where
 -- ---- the wrap counter
 
 pub record Never : Type 0 where
+  pub at_once : (old new : TextAndLayout) (splices : List Splice) → WrapsAtOnce old splices new → old.layout.count ≤ new.layout.count
   pub splices : (old new : TextAndLayout) (splices : List Splice) → WrapsForSplices old splices new → old.layout.count ≤ new.layout.count
   pub width : (old new : TextAndLayout) → WrapsForWidth old new → old.layout.count ≤ new.layout.count
   pub settings : (old new : TextAndLayout) (settings : LayoutSettings) → WrapsForSettings old settings new → old.layout.count ≤ new.layout.count
@@ -107,6 +122,14 @@ pub record Never : Type 0 where
 module _ (never : Never) where
   splices_grow : (old new : DocumentState) (splices : List Splice) → SplicedBy old splices new → old.layout.count ≤ new.layout.count
   splices_grow old new splices h = never.splices (text_and_layout old) (text_and_layout new) splices h
+
+  at_once_grows : (old new : DocumentState) (splices : List Splice) → SplicedAtOnce old splices new → old.layout.count ≤ new.layout.count
+  at_once_grows old new splices h = never.at_once (text_and_layout old) (text_and_layout new) splices h
+
+  act_grows : (asked : Action) (old new : DocumentState) (splices : List Splice) → WrapsByAct asked old splices new → old.layout.count ≤ new.layout.count
+  act_grows action.Undo old new splices h = at_once_grows old new splices h
+  act_grows action.Redo old new splices h = at_once_grows old new splices h
+  act_grows asked old new splices h = splices_grow old new splices h
 
   pub left_grows : (old new : State) → LeftBy old new → old.document.layout.count ≤ new.document.layout.count
   left_grows old new h =
@@ -130,4 +153,12 @@ module _ (never : Never) where
   call_grows old new call.RemoveLineNumber h = settings_grow old.document new.document (line_numbers_set old false) h
   call_grows old new (call.SetAlignment alignment) h = settings_grow old.document new.document (alignment_set old alignment) h
   call_grows old new (call.Render area) h = never.width (text_and_layout old.document) (text_and_layout new.document) h
+  call_grows old new call.Undo h = at_once_grows old.document new.document (splices_of old call.Undo) h
+  call_grows old new call.Redo h = at_once_grows old.document new.document (splices_of old call.Redo) h
+  call_grows old new (call.ReplaceAll text) h = at_once_grows old.document new.document (splices_of old (call.ReplaceAll text)) h
+  call_grows old new call.IndentLines h = at_once_grows old.document new.document (splices_of old call.IndentLines) h
+  call_grows old new call.OutdentLines h = at_once_grows old.document new.document (splices_of old call.OutdentLines) h
+  call_grows old new (call.Input input) h = act_grows (asked_by input.now) old.document new.document (splices_of old (call.Input input)) h
+  call_grows old new (call.InputWithoutShortcuts input) h =
+      act_grows (asked_without_shortcuts input.now) old.document new.document (splices_of old (call.InputWithoutShortcuts input)) h
   call_grows old new made h = splices_grow old.document new.document (splices_of old made) h

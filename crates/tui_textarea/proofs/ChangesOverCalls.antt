@@ -29,6 +29,7 @@ use Rattle.tui_textarea.proofs.Frames.{drawn_document}
 use Rattle.textarea_data.specs.declared.range.AtomicCursorBias.TheVariants.{Forward}
 use Rattle.tui_textarea.specs.Ranges.{ranges_accepted}
 use Rattle.tui_textarea.specs.Units.{settled}
+use Rattle.tui_textarea.proofs.Replacing.{AtOnce, at_once_by}
 use Rattle.tui_textarea.proofs.Settling.{LayoutAndRanges, Visible, layout_and_ranges, settled_layout, settled_text, visible}
 use Rattle.tui_textarea.proofs.Stepping.{Reckoning}
 
@@ -128,7 +129,10 @@ module _ (laws : TheLaws) where
   }
 
   past : Past Logs
-  past = record { undos = laws.undone; redos = laws.redone; stays = λ document. stays document document refl; same = reckoned.same }
+  past = record { undos = laws.undone; redos = laws.redone; stays = λ document sound. stays document document refl; same = reckoned.same }
+
+  once : AtOnce Logs
+  once = at_once_by Logs reckoned (λ old new splices layout h. record { more = h.more; changes = h.changes; leads = h.leads; none = h.none })
 
   -- any call but the two of the log
   leads : (old new : State) (made : Call) (returned : CallResult) → (¬ SetsLog made) → (¬ Takes made) → IsSound old.document → IsAfterCall old made returned new → ChangesLead old.document new.document
@@ -151,10 +155,10 @@ module _ (laws : TheLaws) where
       let is = drawn_document old new area k in
       no_change_leads old.document new.document (ap (λ (d : DocumentState). d.text) is) (ap (λ (d : DocumentState). d.changes) is)
   leads old new (call.Input input) returned sets takes h k =
-      by_any_act Logs (asked_by input.now) old.document new.document _ (calls_by Logs Logs reckoned past old new (call.Input input) returned h k)
+      by_any_act Logs (asked_by input.now) old.document new.document _ (calls_by Logs Logs Logs reckoned once past old new (call.Input input) returned h k)
   leads old new (call.InputWithoutShortcuts input) returned sets takes h k =
-      by_any_act Logs (asked_without_shortcuts input.now) old.document new.document _ (calls_by Logs Logs reckoned past old new (call.InputWithoutShortcuts input) returned h k)
-  leads old new made returned sets takes h k = calls_by Logs Logs reckoned past old new made returned h k
+      by_any_act Logs (asked_without_shortcuts input.now) old.document new.document _ (calls_by Logs Logs Logs reckoned once past old new (call.InputWithoutShortcuts input) returned h k)
+  leads old new made returned sets takes h k = calls_by Logs Logs Logs reckoned once past old new made returned h k
 
   pub call_follows : (old new : State) (made : Call) (returned : CallResult) → (¬ SetsLog made) → IsSound old.document → IsResultOf old made returned → IsAfterCall old made returned new
       → ChangesFollow old.document (taken_by returned) new.document

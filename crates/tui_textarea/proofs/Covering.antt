@@ -26,6 +26,7 @@ use Rattle.tui_textarea.specs.State.{State}
 use Rattle.tui_textarea.specs.Units.{settled}
 use Rattle.tui_textarea.proofs.Acting.{Fact, Past, acts_by, any_left, by_any_act, calls_by, calls_left}
 use Rattle.tui_textarea.proofs.Frames.{drawn_document}
+use Rattle.tui_textarea.proofs.Replacing.{AtOnce, at_once_by}
 use Rattle.tui_textarea.proofs.Settling.{LayoutAndRanges, Visible, layout_and_ranges, settled_layout, visible}
 use Rattle.tui_textarea.proofs.Stepping.{Reckoning, selected_by}
 
@@ -82,7 +83,10 @@ module _ (laws : TheLaws) where
   }
 
   past : Past Covers
-  past = record { undos = laws.undone; redos = laws.redone; stays = λ document characters stored. stored; same = reckoned.same }
+  past = record { undos = laws.undone; redos = laws.redone; stays = λ document sound characters stored. stored; same = reckoned.same }
+
+  once : AtOnce Covers
+  once = at_once_by Covers reckoned (λ old new splices layout h. h)
 
   pub call_covers : (old new : State) (made : Call) (returned : CallResult) → IsSound old.document → ¬ SetsRanges made returned → IsResultOf old made returned → IsAfterCall old made returned new →
       CoversNoMore old.document new.document
@@ -98,17 +102,17 @@ module _ (laws : TheLaws) where
   call_covers old new call.TakeChanges returned h none e k = unchanged old new _ k refl
   call_covers old new (call.Render area) returned h none e k = covered_same old.document new.document (ap covered (drawn_document old new area k))
   call_covers old new (call.Input input) returned h none e k =
-      by_any_act Covers (asked_by input.now) old.document new.document _ (calls_by Covers Covers reckoned past old new (call.Input input) returned h k)
+      by_any_act Covers (asked_by input.now) old.document new.document _ (calls_by Covers Covers Covers reckoned once past old new (call.Input input) returned h k)
   call_covers old new (call.InputWithoutShortcuts input) returned h none e k =
-      by_any_act Covers (asked_without_shortcuts input.now) old.document new.document _ (calls_by Covers Covers reckoned past old new (call.InputWithoutShortcuts input) returned h k)
-  call_covers old new made returned h none e k = calls_by Covers Covers reckoned past old new made returned h k
+      by_any_act Covers (asked_without_shortcuts input.now) old.document new.document _ (calls_by Covers Covers Covers reckoned once past old new (call.InputWithoutShortcuts input) returned h k)
+  call_covers old new made returned h none e k = calls_by Covers Covers Covers reckoned once past old new made returned h k
 
   pub left_covers : (old new : State) (made : Call) → IsSound old.document → IsAfterOutOfMemory old made new → CoversNoMore old.document new.document
   left_covers old new made h k = ⊎_elim (λ none. none) (λ gone. gone) (calls_left Covers reckoned old new made h k)
 
   -- an action, made or out of memory
   pub action_covers : (old new : State) (asked : Action) → IsSound old.document → IsLeftByAction old asked new → CoversNoMore old.document new.document
-  action_covers old new asked h (inl made) = by_any_act Covers asked old.document new.document _ (acts_by Covers Covers reckoned past old new asked h made)
+  action_covers old new asked h (inl made) = by_any_act Covers asked old.document new.document _ (acts_by Covers Covers Covers reckoned once past old new asked h made)
   action_covers old new asked h (inr ran_out) =
       ⊎_elim
       (λ same. unchanged old new old same refl)

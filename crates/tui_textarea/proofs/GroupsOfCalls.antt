@@ -16,7 +16,7 @@ use Rattle.textarea_history.proofs.Groups.{before_more, before_none, remaining_s
 use Rattle.textarea_document.specs.DocumentState.{DocumentState}
 use Rattle.textarea_document.specs.Outcomes.{after_undo}
 use Rattle.textarea_document.specs.Sound.{IsSound}
-use Rattle.textarea_document.proofs.UndoGroups.{AreUndone, are_undone}
+use Rattle.textarea_document.proofs.UndoGroups.{AreUndone, group_undone}
 use Rattle.textarea_document.proofs.UndoLaw.{gives_back}
 use Rattle.tui_textarea.proofs.UndoneAtOnce.{HasEdits, separate}
 
@@ -180,7 +180,7 @@ group_taken_back maximum before document new first rest sound edits leads h =
     ∙ ap suc (grouped_in h.before (length rest) (length rest) (omega arith)) in
     let some : 1 ≤ done_groups new.log = subst (λ n. 1 ≤ group_count new.log.marks n) last (some_group new.log.marks (length new.log.done - 1)) in
     let restored = gives_back 1 new sound some in
-    let undone : AreUndone (newest_group new.log) new (after_undo new) = are_undone (newest_group new.log) new (omega (arith, size, sizes)) in
+    let undone : AreUndone (newest_group new.log) new (after_undo new) = group_undone new (omega (arith, size, sizes)) in
     let left : length (after_undo new).log.done ≡ length h.front = omega (arith, undone.done, size, sizes) in
     let own : drop (length (after_undo new).log.done) new.log.done ≡ first ∷ rest =
     ap (λ n. drop n new.log.done) left ∙ ap (drop (length h.front)) done_is ∙ drop-append_seam h.front (first ∷ rest) in

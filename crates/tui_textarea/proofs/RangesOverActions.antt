@@ -13,6 +13,7 @@ use Rattle.tui_textarea.specs.Drawing.{IsRendered}
 use Rattle.tui_textarea.specs.State.{State}
 use Rattle.tui_textarea.proofs.Frames.{drawn_document}
 use Rattle.tui_textarea.proofs.Acting.{Past}
+use Rattle.tui_textarea.proofs.Replacing.{AtOnce, at_once_by}
 use Rattle.tui_textarea.proofs.Settling.{LayoutAndRanges, Visible, layout_and_ranges}
 use Rattle.tui_textarea.proofs.Stepping.{Reckoning}
 
@@ -49,6 +50,10 @@ reckoning_of edits = record {
   forgotten = λ old new same none. stays old new (ap (λ (s : Visible). s.0.text) same) (ap (λ (s : Visible). s.1) same);
 }
 
+-- the layout has no influence
+pub at_once_of : EditsGo → AtOnce RangesStayWhole
+at_once_of edits = at_once_by RangesStayWhole (reckoning_of edits) (λ old new splices layout h. (record { text = h.0.text; ranges = h.0.ranges }, h.1))
+
 -- ---- what leaves text and ranges unchanged
 
 pub ranges_stay_in_drawing : (old new : State) (area : Rect) → IsRendered old area new → RangesStayWhole old.document [] new.document
@@ -69,4 +74,4 @@ past_as old new other splices same h = record {
 }
 
 pub past_follows : UndosGo → RedosGo → Past RangesFollowPast
-past_follows undos redos = record { undos = undos; redos = redos; stays = λ document. follows_past document document [] (stays document document refl refl).0; same = past_as }
+past_follows undos redos = record { undos = undos; redos = redos; stays = λ document sound. follows_past document document [] (stays document document refl refl).0; same = past_as }

@@ -27,7 +27,7 @@ use Rattle.tui_textarea.specs.Units.{settled}
 use Rattle.tui_textarea.proofs.Settling.{settled_ranges, settled_text}
 use Rattle.tui_textarea.proofs.Cases.{by_test}
 use Rattle.tui_textarea.proofs.Acting.{ByAct, ByCall, acts_by, calls_by, calls_left}
-use Rattle.tui_textarea.proofs.RangesOverActions.{RedosGo, EditsGo, UndosGo, ranges_stay_in_drawing, reckoning_of, past_follows}
+use Rattle.tui_textarea.proofs.RangesOverActions.{RedosGo, EditsGo, UndosGo, at_once_of, ranges_stay_in_drawing, reckoning_of, past_follows}
 
 -- ---- the laws of the text area
 
@@ -78,8 +78,8 @@ follows_by_action action.Redo old new splices h = h
 follows_by_action asked old new splices h = h
 
 module _ (laws : TheLaws) where
-  ranges_follow : (old new : State) (made : Call) (returned : CallResult) → IsSound old.document → IsAfterCall old made returned new → ByCall RangesStayWhole RangesFollowPast made old.document (splices_of old made) new.document
-  ranges_follow old new made returned h k = calls_by RangesStayWhole RangesFollowPast (reckoning_of laws.edited) (past_follows laws.undone laws.redone) old new made returned h k
+  ranges_follow : (old new : State) (made : Call) (returned : CallResult) → IsSound old.document → IsAfterCall old made returned new → ByCall RangesStayWhole RangesStayWhole RangesFollowPast made old.document (splices_of old made) new.document
+  ranges_follow old new made returned h k = calls_by RangesStayWhole RangesStayWhole RangesFollowPast (reckoning_of laws.edited) (at_once_of laws.edited) (past_follows laws.undone laws.redone) old new made returned h k
 
   pub ranges_follow_call : (old new : State) (made : Call) (returned : CallResult) → IsSound old.document → IsResultOf old made returned → IsAfterCall old made returned new → RangesFollowCall old made returned new
   ranges_follow_call old new (call.SetLines lines cursor) returned h e k =
@@ -106,7 +106,7 @@ module _ (laws : TheLaws) where
 
   inputs_go : (old new : State) (asked : Action) → IsSound old.document → IsAfterAction old asked new → RangesFollowAction asked old.document (splices_by old asked) new.document
   inputs_go old new asked h k =
-      follows_by_action asked old.document new.document _ (acts_by RangesStayWhole RangesFollowPast (reckoning_of laws.edited) (past_follows laws.undone laws.redone) old new asked h k)
+      follows_by_action asked old.document new.document _ (acts_by RangesStayWhole RangesStayWhole RangesFollowPast (reckoning_of laws.edited) (at_once_of laws.edited) (past_follows laws.undone laws.redone) old new asked h k)
 
   act_fits : (state : State) (asked : Action) → IsSound state.document → Fitting state (IsUndoOrRedoAct asked) (splices_by state asked)
   act_fits state action.Undo h = ((inputs_go state (state_after state call.Undo) action.Undo h refl).text.can, λ no. absurd (no tt))

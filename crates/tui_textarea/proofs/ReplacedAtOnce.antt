@@ -20,6 +20,7 @@ use Rattle.textarea_document.specs.Replacing.{ahead_end, ahead_replaced, ahead_s
 use Rattle.textarea_document.specs.Replacing.{stretch_end, stretch_removal, stretch_removed, stretch_replaced, stretch_splices, stretch_start}
 use Rattle.textarea_document.specs.Sound.{IsSound}
 use Rattle.textarea_document.specs.Splices.{insertion_splices}
+use Rattle.textarea_document.proofs.Layouts.{all_relaid}
 use Rattle.textarea_document.proofs.Orders.{index_before}
 use Rattle.textarea_document.proofs.Sounds.{sound_begun, sound_edited, start_is_place}
 use Rattle.textarea_document.proofs.StepLaw.{step_keeps}
@@ -206,7 +207,6 @@ module _ (state : State) (sound : IsSound state.document) (closed : is_open stat
   all_back : (stretches : List (ℕ × ℕ)) (symbols : List Symbol) → IsSound (all_replaced state.document stretches symbols state.time)
       → 0 < length (all_splices state.document stretches symbols state.time) → length (all_splices state.document stretches symbols state.time) ≤ state.document.log.maximum
       → (after_undo (all_replaced state.document stretches symbols state.time)).text ≡ state.document.text
-  unfolding all_replaced
   all_back [] symbols is_sound some room = absurd (omega (arith, some))
   all_back (stretch ∷ rest) symbols is_sound some room =
       let document = state.document in
@@ -214,8 +214,15 @@ module _ (state : State) (sound : IsSound state.document) (closed : is_open stat
       let inner = each_replaced at_start 0 (stretch ∷ rest) symbols state.time in
       let first = none document.log.maximum document.text (begun document) at_start (λ h. sound_at (begun document) (0, 0) None h (start_is_place document.text) tt) refl
       (λ own h. run_ended_holds document.log.maximum (begun document).log own h) [] (begins document sound closed) (omega arith) in
-      taken_back document.log.maximum document.text inner (ended_after document inner) (all_splices document (stretch ∷ rest) symbols state.time)
-      (each document.log.maximum document.text at_start 0 (stretch ∷ rest) symbols state.time [] first (omega (arith, room))) some is_sound (ended_edits document inner)
+      let ended = ended_edits document inner in
+      let same = all_relaid document stretch rest symbols state.time in
+      taken_back document.log.maximum document.text inner (all_replaced document (stretch ∷ rest) symbols state.time) (all_splices document (stretch ∷ rest) symbols state.time)
+      (each document.log.maximum document.text at_start 0 (stretch ∷ rest) symbols state.time [] first (omega (arith, room))) some is_sound
+      (record {
+        text_is = ap (λ (d : DocumentState). d.text) same ∙ ended.text_is;
+        done = ap (λ (d : DocumentState). d.log.done) same ∙ ended.done;
+        marks = ap (λ (d : DocumentState). d.log.marks) same ∙ ended.marks;
+      })
 
   unguarded_call : (made : Call) → IsReplacement made → 0 < length (unguarded_splices state made) → length (unguarded_splices state made) ≤ state.document.log.maximum → Back state (unguarded_after state made)
   unguarded_call (call.ReplaceRange from to text) is some room =

@@ -1,5 +1,5 @@
 -- Replacements lead by their splices to sound documents.
-use Rattle.std.proofs.Common.{◌≡◌, ◌<◌, ℕ, ◌+◌, ◌-◌, ◌==◌, false, List, [], ◌∷◌, ◌++◌, length, Option, None, Some, option_map, ap, arith, refl, sym, not}
+use Rattle.std.proofs.Common.{◌≡◌, ◌<◌, ℕ, ◌+◌, ◌-◌, ◌==◌, false, List, [], ◌∷◌, ◌++◌, length, Option, None, Some, option_map, ap, arith, refl, subst, sym, not}
 use Rattle.textarea_data.specs.declared.cursor.CursorUnit.{CursorUnit}
 use Rattle.textarea_text.specs.Between.{clip}
 use Rattle.textarea_text.specs.Place.{IsPlace, Place, is_before, line_end, line_of}
@@ -7,6 +7,7 @@ use Rattle.textarea_text.specs.Splice.{Splice}
 use Rattle.textarea_text.specs.Text.{Symbol, characters, following, leading, lines}
 use Rattle.textarea_history.specs.Groups.{is_open}
 use Rattle.textarea_history.specs.Log.{group_ended}
+use Rattle.textarea_lines.specs.TextLayout.{Layout}
 use Rattle.textarea_search.specs.declared.search.direction.Direction.TheVariants as toward
 use Rattle.textarea_search.specs.declared.search.text_matches.TextMatch.{TextMatch}
 use Rattle.textarea_document.specs.DocumentState.{DocumentState}
@@ -14,10 +15,12 @@ use Rattle.textarea_document.specs.Indenting.{moved_near, shifted_over, shifted_
 use Rattle.textarea_document.specs.Moving.{has_line_below, line_above_relocated, line_below_relocated, lines_moved_down, lines_moved_up, move_down_splices}
 use Rattle.textarea_document.specs.Moving.{move_up_splices, relocated, relocation_splices, row_down, row_up, swapped_down, swapped_up}
 use Rattle.textarea_document.specs.Outcomes.{after_move}
-use Rattle.textarea_document.specs.Replacing.{ahead_end, ahead_replaced, ahead_start, all_replaced, all_splices, begun, begun_at_start, each_replaced, each_splices, ended_after, range_replaced, range_splices}
+use Rattle.textarea_document.specs.Replacing.{ahead_end, ahead_replaced, ahead_start, all_replaced, all_splices, begun, begun_at_start, each_replaced, each_splices, ended_after, range_replaced, range_splices, replaced_in_turn}
 use Rattle.textarea_document.specs.Replacing.{stretch_end, stretch_removal, stretch_removed, stretch_replaced, stretch_splices, stretch_start}
 use Rattle.textarea_document.specs.Selection.{first_selected_row, last_selected_row}
 use Rattle.textarea_document.specs.Sound.{IsSound}
+use Rattle.textarea_document.proofs.AtOnce.{sound_replaced}
+use Rattle.textarea_document.proofs.Layouts.{all_relaid}
 use Rattle.textarea_document.proofs.MovedLines.{ends_above, ends_below}
 use Rattle.textarea_document.proofs.Orders.{index_before}
 use Rattle.textarea_document.proofs.Replacing.{ends_are_places}
@@ -51,6 +54,44 @@ pub stretch_is : (document : DocumentState) (from to : Place) → IsSound docume
 stretch_is document from to h =
     let rows = lines document.text in
     ends_are_places document.text (clip rows from) (clip rows to) (clip_is_place rows from (omega (arith, h.cursor.0))) (clip_is_place rows to (omega (arith, h.cursor.0)))
+
+-- cursor and anchor move near other positions
+sound_near : (after : DocumentState) (cursor : Place) (anchor : Option Place) → IsSound after → IsSound (moved_near after cursor anchor)
+sound_near after cursor anchor h =
+    let rows = lines after.text in
+    let some : 0 < length rows = omega (arith, h.cursor.0) in
+    let there = after_move after (clip rows cursor) None in
+    sound_from there (option_map (clip rows) anchor) (sound_at after (clip rows cursor) None h (clip_is_place rows cursor some) tt) (clipped after.text anchor some)
+
+-- ---- stretches that are replaced at once
+
+-- A relation of two documents and the splices between them, if stretches are replaced at once. No
+-- splices relate a document to itself, and it is the same for documents that are seen as the same.
+pub record AtOnce (Once : DocumentState → List Splice → DocumentState → Type 0) : Type 0 where
+  pub all : (document : DocumentState) (stretches : List (ℕ × ℕ)) (symbols : List Symbol) (now : ℕ) → IsSound document
+      → Once document (all_splices document stretches symbols now) (all_replaced document stretches symbols now)
+  pub stays : (document : DocumentState) → IsSound document → Once document [] document
+  pub same : (old new other : DocumentState) (splices : List Splice) → layout_and_ranges other ≡ layout_and_ranges new → Once old splices new → Once old splices other
+
+module _ (Once : DocumentState → List Splice → DocumentState → Type 0) (once : AtOnce Once) where
+  pub all_once : (document : DocumentState) (stretches : List (ℕ × ℕ)) (symbols : List Symbol) (now : ℕ) → IsSound document
+      → Once document (all_splices document stretches symbols now) (all_replaced document stretches symbols now) × IsSound (all_replaced document stretches symbols now)
+  all_once document stretches symbols now h = (once.all document stretches symbols now h, sound_replaced document stretches symbols now h)
+
+  -- the starts of lines are replaced
+  pub lines_shifted_once : (document : DocumentState) (outdents : Option CursorUnit) (stretches : List (ℕ × ℕ)) (tab : List ℕ) (now : ℕ) → IsSound document
+      → Once document (all_splices document stretches (characters tab) now) (shifted_over document outdents stretches tab now) × IsSound (shifted_over document outdents stretches tab now)
+  unfolding shifted_over
+  lines_shifted_once document outdents [] tab now h = (once.stays document h, h)
+  lines_shifted_once document outdents (stretch ∷ rest) tab now h =
+      let place = shifted_place document outdents (length tab) in
+      let splices = all_splices document (stretch ∷ rest) (characters tab) now in
+      let after = all_replaced document (stretch ∷ rest) (characters tab) now in
+      let new = moved_near after (place document.cursor) (option_map place document.anchor) in
+      let made = all_once document (stretch ∷ rest) (characters tab) now h in
+      (once.same document after new splices refl made.0, sound_near after (place document.cursor) (option_map place document.anchor) made.1)
+
+-- ---- one after another
 
 module _ (By : DocumentState → List Splice → DocumentState → Type 0) (by : Reckoning By) where
   abbrev Keeps : DocumentState → List Splice → DocumentState → Type 0
@@ -122,37 +163,34 @@ module _ (By : DocumentState → List Splice → DocumentState → Type 0) (by :
   start_by document h =
       kept By by document (begun_at_start document) (begun_unchanged document) (sound_at (begun document) (0, 0) None (sound_begun document h) (start_is_place document.text) tt)
 
-  pub all_by : (document : DocumentState) (stretches : List (ℕ × ℕ)) (symbols : List Symbol) (now : ℕ) → IsSound document
-      → Keeps document (all_splices document stretches symbols now) (all_replaced document stretches symbols now)
-  unfolding all_replaced
-  all_by document [] symbols now h = kept By by document document refl h
-  all_by document (stretch ∷ rest) symbols now h =
-      let stretches = stretch ∷ rest in
+  in_turn_by : (document : DocumentState) (stretches : List (ℕ × ℕ)) (symbols : List Symbol) (now : ℕ) → IsSound document
+      → Keeps document (all_splices document stretches symbols now) (replaced_in_turn document stretches symbols now)
+  in_turn_by document stretches symbols now h =
       let after = each_replaced (begun_at_start document) 0 stretches symbols now in
       ended_by document after (all_splices document stretches symbols now)
       (then_by document (begun_at_start document) after [] (all_splices document stretches symbols now)
       (start_by document h) (λ sound. each_by (begun_at_start document) 0 stretches symbols now sound))
 
+  -- a relation that doesn't depend on the layout is also one of replacements at once
+  module _ (relays : (old new : DocumentState) (splices : List Splice) (layout : Layout) → By old splices new → By old splices (record new { layout = layout })) where
+    all_by : (document : DocumentState) (stretches : List (ℕ × ℕ)) (symbols : List Symbol) (now : ℕ) → IsSound document
+        → By document (all_splices document stretches symbols now) (all_replaced document stretches symbols now)
+    unfolding all_replaced
+    all_by document [] symbols now h = by.none document document refl
+    all_by document (stretch ∷ rest) symbols now h =
+        let stretches = stretch ∷ rest in
+        let new = all_replaced document stretches symbols now in
+        let in_turn = replaced_in_turn document stretches symbols now in
+        let splices = all_splices document stretches symbols now in
+        subst (By document splices) (sym (all_relaid document stretch rest symbols now)) (relays document in_turn splices new.layout (in_turn_by document stretches symbols now h).0)
+
+    pub at_once_by : AtOnce By
+    at_once_by = record { all = all_by; stays = λ document sound. by.none document document refl; same = by.same }
+
   -- cursor and anchor move near other positions
   near_by : (document after : DocumentState) (splices : List Splice) (cursor : Place) (anchor : Option Place) → Keeps document splices after
       → Keeps document splices (moved_near after cursor anchor)
-  near_by document after splices cursor anchor h =
-      let rows = lines after.text in
-      let some : 0 < length rows = omega (arith, h.1.cursor.0) in
-      let there = after_move after (clip rows cursor) None in
-      moved By by document after (moved_near after cursor anchor) splices refl
-      (sound_from there (option_map (clip rows) anchor) (sound_at after (clip rows cursor) None h.1 (clip_is_place rows cursor some) tt) (clipped after.text anchor some)) h
-
-  -- the starts of lines are replaced
-  pub lines_shifted_by : (document : DocumentState) (outdents : Option CursorUnit) (stretches : List (ℕ × ℕ)) (tab : List ℕ) (now : ℕ) → IsSound document
-      → Keeps document (all_splices document stretches (characters tab) now) (shifted_over document outdents stretches tab now)
-  unfolding shifted_over
-  lines_shifted_by document outdents [] tab now h = kept By by document document refl h
-  lines_shifted_by document outdents (stretch ∷ rest) tab now h =
-      let place = shifted_place document outdents (length tab) in
-      let after = all_replaced document (stretch ∷ rest) (characters tab) now in
-      near_by document after (all_splices document (stretch ∷ rest) (characters tab) now) (place document.cursor) (option_map place document.anchor)
-      (all_by document (stretch ∷ rest) (characters tab) now h)
+  near_by document after splices cursor anchor h = moved By by document after (moved_near after cursor anchor) splices refl (sound_near after cursor anchor h.1) h
 
   -- ---- lines that change places with the line above or below them
 

@@ -22,6 +22,7 @@ use Rattle.tui_textarea.specs.Outcomes.{IsAfterCall, IsAfterOutOfMemory}
 use Rattle.tui_textarea.specs.State.{State}
 use Rattle.tui_textarea.proofs.Acting.{Fact, Past, by_state, left, the_call, unguarded_by}
 use Rattle.tui_textarea.proofs.Frames.{drawn_document}
+use Rattle.tui_textarea.proofs.Replacing.{AtOnce}
 use Rattle.tui_textarea.proofs.Settling.{sound_settled}
 use Rattle.tui_textarea.proofs.SoundStates.{pushed_is_place, sound_goes, sound_settings}
 use Rattle.tui_textarea.proofs.Stepping.{Reckoning, selected_by}
@@ -41,13 +42,16 @@ any : Reckoning Any
 any = record { none = λ old new same. tt; same = λ old new other splices same h. tt; two = λ old between new first second h k. tt; one = λ document splice typed now sound fits whole. tt; forgotten = λ old new same none. tt }
 
 past_any : Past Any
-past_any = record { undos = λ document h. tt; redos = λ document h. tt; stays = λ document. tt; same = λ old new other splices same h. tt }
+past_any = record { undos = λ document h. tt; redos = λ document h. tt; stays = λ document sound. tt; same = λ old new other splices same h. tt }
+
+once_any : AtOnce Any
+once_any = record { all = λ document stretches symbols now h. tt; stays = λ document sound. tt; same = λ old new other splices same h. tt }
 
 pub unguarded_stays_sound : (old : State) (made : Call) → HasSound old → CanBeMade made → HasSound (unguarded_after old made)
-unguarded_stays_sound old made h can = (unguarded_by Any Any any past_any old made h).1 can
+unguarded_stays_sound old made h can = (unguarded_by Any Any Any any once_any past_any old made h).1 can
 
 pub state_stays_sound : (old : State) (made : Call) → HasSound old → CanBeMade made → HasSound (state_after old made)
-state_stays_sound old made h can = (by_state Any Any any past_any old made h).1 can
+state_stays_sound old made h can = (by_state Any Any Any any once_any past_any old made h).1 can
 
 -- ---- each call
 

@@ -22,6 +22,7 @@ use Rattle.textarea_document.specs.Outcomes.{after_edit, after_undo, after_undo_
 use Rattle.textarea_document.specs.Selection.{is_selected, selection_end, selection_start}
 use Rattle.textarea_document.specs.Sound.{IsSound}
 use Rattle.textarea_document.specs.Splices.{removal_splices, selected_splices}
+use Rattle.textarea_document.proofs.Layouts.{undo_relaid}
 use Rattle.textarea_document.proofs.Sounds.{sound_edited}
 use Rattle.textarea_document.proofs.StepLaw.{step_keeps}
 use Rattle.textarea_text.specs.Fragment.{fragment_symbols, pasted_symbols}
@@ -170,7 +171,7 @@ one_undone document new splice typed now h fits some joins_none first known edit
     let mark : get_or new.log.marks (length new.log.done - 1) false ≡ false =
     ap (λ n. get_or new.log.marks n false) at ∙ ap (λ (m : List Bool). get_or m (length before) false) marks_is ∙ get_or-append_seam before false [] false in
     let group : newest_group new.log ≡ 1 = ap suc (before_none new.log.marks (length new.log.done - 1) mark) in
-    ap (λ n. (times n edit_undone new).text) group ∙ (undone_one new front splice document.text done_is edits.text_is fits).0
+    ap (λ (d : DocumentState). d.text) (undo_relaid new) ∙ ap (λ n. (times n edit_undone new).text) group ∙ (undone_one new front splice document.text done_is edits.text_is fits).0
 
 -- and two edits in one group, the first not as typed
 pub two_undone : (document new : DocumentState) (first second : Splice) (typed : Bool) (now : ℕ) → IsSound document → Fits document.text first →
@@ -208,7 +209,8 @@ two_undone document new first second typed now h fits then_fits several empty ed
     ∙ ap (λ b. suc (cond b (suc (grouped_before (before ++ true ∷ []) (length stays.before))) 0)) last
     ∙ ap (λ n. suc (suc n)) (before_none (before ++ true ∷ []) (length stays.before) own) in
     let back = undone_one new front second (applied document.text first) done_is edits.text_is then_fits in
-    ap (λ n. (times n edit_undone new).text) group
+    ap (λ (d : DocumentState). d.text) (undo_relaid new)
+    ∙ ap (λ n. (times n edit_undone new).text) group
     ∙ (undone_one (edit_undone new) stays.front first document.text back.1 back.0 fits).0
 
 -- ---- over a selection, or without one

@@ -1,11 +1,12 @@
 -- A frame at another inner width has the same settings.
 use Rattle.std.proofs.Common.{◌≡◌, ℕ, Bool, true, false, cond, not, Option, None, Some, ap, refl, ◌∙◌}
 use Rattle.tui_textarea.specs.DrawingPrelude.{has_symbols, text_and_layout, selection, selection_by, DocumentState, WidgetState, frame_of, scene_of, FrameState, at_inner_width}
-use Rattle.tui_textarea.specs.DrawingPrelude.{TextAndLayout, Layout, at_width, layout_from_scratch, keeps_wrapping, BorrowedRows, LayoutSettings, Place}
+use Rattle.tui_textarea.specs.DrawingPrelude.{TextAndLayout, Layout, at_width, keeps_wrapping, BorrowedRows, LayoutSettings, Place}
+use Rattle.textarea_lines.specs.TextLayout.{rewrapped}
 
 abbrev put_if : Bool → TextAndLayout → LayoutSettings → TextAndLayout
 put_if b text_layout settings =
-    cond b (record { text = text_layout.text; layout = record { settings = settings; count = text_layout.layout.count; ticks = text_layout.layout.ticks } }) (layout_from_scratch settings text_layout.layout.count text_layout.text)
+    cond b (record { text = text_layout.text; layout = record text_layout.layout { settings = settings } }) (rewrapped text_layout settings)
 
 settings_put : (b : Bool) (text_layout : TextAndLayout) (settings : LayoutSettings) → (put_if b text_layout settings).layout.settings ≡ settings
 settings_put true text_layout settings = refl

@@ -1,5 +1,5 @@
 //! Look-ups in blocks: the line at an index, its visual rows, and the totals before it.
-ghost use Rattle.std.specs.Prelude.{◌≡◌, ◌+◌, ◌<◌, ◌≤◌, [], length, take, drop, get_or, min};
+ghost use Rattle.std.specs.Prelude.{◌≡◌, ◌+◌, ◌<◌, ◌≤◌, [], length, take, drop, get_or, min, slice_get, Some};
 ghost use Rattle.textarea_blocks.specs.Prelude.{IsBlockOf, IsEdge, all_rows, lines_before, marks_at, ranges_at, row_total, size_total};
 
 use super::RowBlocks;
@@ -58,6 +58,7 @@ impl RowBlocks {
         requires { line < length (all_rows self.now.blocks) }
         ensures ranges { result.now.ranges ≡ ranges_at (all_rows self.now.blocks) line }
         ensures marks { result.now.marks ≡ marks_at (all_rows self.now.blocks) line }
+        ensures rows { slice_get (all_rows self.now.blocks) line ≡ Some result.now }
     {
         let (block, index) = self.place_of(line);
         &self.blocks[block][index]

@@ -1,6 +1,6 @@
-//! Groups of edits, which are undone and redone together.
+//! Groups of edits, which are undone and redone together, and wrap at once.
 ghost use Rattle.std.specs.Prelude.{◌≡◌, ◌<◌, length, OnOk, OnErr, IfOk, is_some, true, false};
-ghost use Rattle.textarea_document.specs.Prelude.{changes_taken, with_changes_after, after_redo, after_undo, group_begun, group_closed, group_ended, group_opened, is_grouped, is_open, newest, newest_group, next, next_group};
+ghost use Rattle.textarea_document.specs.Prelude.{changes_taken, lines_numbered, text_and_layout, with_changes_after, wrapped_at_once, IsChangedFrom, after_redo, after_undo, group_begun, group_closed, group_ended, group_opened, is_grouped, is_open, newest, newest_group, next, next_group};
 
 use crate::document::Document;
 use crate::document::draft::Draft;
@@ -75,11 +75,12 @@ impl Document {
         Ok(true)
     }
 
-    // A copy in which edits can be undone and redone one by one, with an empty log of changes.
+    // A copy in which edits can be undone and redone one by one, with an empty log of changes. Its
+    // lines are numbered and not wrapped.
     fn draft(&self) -> Result<Draft, AllocError>
-        ensures { IfOk result (λ draft. draft ≡ changes_taken self.now) }
+        ensures { IfOk result (λ draft. draft ≡ changes_taken (lines_numbered self.now)) }
     {
-        let text_layout = self.text_layout.clone()?;
+        let text_layout = self.text_layout.numbered()?;
         let ranges = self.ranges.clone()?;
         let history = self.history.clone()?;
         let changes = self.changes.emptied();
@@ -95,11 +96,13 @@ impl Document {
         })
     }
 
-    // Replaces the document by the draft, in which no group is undone partly. The changes in the log
-    // stay before those of the draft.
+    // Replaces the document by the draft, in which no group is undone partly, and wraps each line that
+    // an edit of the draft touched. The changes in the log stay before those of the draft.
     fn put(&mut self, draft: Draft) -> Result<(), AllocError>
-        requires { is_grouped draft.log.marks (length draft.log.done) ≡ false }
-        ensures ok { OnOk result (self.new ≡ with_changes_after self.old.changes draft) }
+        requires whole { is_grouped draft.log.marks (length draft.log.done) ≡ false }
+        requires changed { IsChangedFrom (text_and_layout self.old) (text_and_layout draft) }
+        ensures ok { OnOk result
+            (self.new ≡ with_changes_after self.old.changes (wrapped_at_once self.old draft)) }
         ensures err { OnErr result (self.new ≡ self.old) }
     {
         let Draft {
@@ -111,8 +114,9 @@ impl Document {
             changes,
             range_history,
         } = draft;
+        let wrapped = self.text_layout.wrapped_once(text_layout)?;
         self.changes.append(changes)?;
-        self.text_layout = text_layout;
+        self.text_layout = wrapped;
         self.cursor = cursor;
         self.anchor = anchor;
         self.ranges = ranges;

@@ -2,7 +2,7 @@
 ghost use Rattle.std.specs.Prelude.{◌≡◌, ◌≤◌, string_bytes, OnOk, OnErr, IfOk};
 ghost use Rattle.std.specs.Arc.{arc_value};
 ghost use Rattle.textarea_text.specs.Fragment.{fragment_text};
-ghost use Rattle.textarea_document.specs.Prelude.{as_nanos, chars, text_of, IsPlace, index_of};
+ghost use Rattle.textarea_document.specs.Prelude.{as_nanos, chars, text_and_layout, text_of, wrapped_at_once, IsChangedFrom, IsPlace, index_of};
 ghost use Rattle.textarea_document.specs.Replacing.{ahead_replaced, all_replaced, each_replaced, ended_after, first_place, last_place, range_replaced, replaces, stretch_end, stretch_removed, stretch_replaced, stretch_start, stretch_symbols};
 
 use crate::document::Document;
@@ -93,7 +93,9 @@ impl Document {
     /// Replaces stretches of the text by the fragment, one after another, as one group of edits,
     /// which ends unless a group was open. Each stretch is given by the number of symbols before
     /// its start and before its end in the text as it is now; they are in order. What is inserted
-    /// is passed over. The cursor is then after the last of them; without any, nothing changes.
+    /// is passed over. The cursor is then after the last of them; without any, nothing changes. Each
+    /// line that is touched is wrapped once, and no other, unless the number of lines changes how
+    /// lines wrap.
     #[tactic(auto, unfolding(crate::specs::Replacing::all_replaced))]
     pub fn replace_all(
         &mut self,
@@ -108,13 +110,13 @@ impl Document {
         if stretches.is_empty() {
             return Ok(());
         }
-        let mut copy = self.copied()?;
+        self.is_sound();
+        let mut copy = self.with_lines_numbered()?;
         copy.begin_group();
         copy.move_to((0, 0), None);
         copy.replace_each(stretches, fragment_lines, now)?;
         let ended = self.end_group_of(copy);
-        self.replace_with(ended);
-        Ok(())
+        self.put_edited(ended)
     }
 
     // Replaces the stretches one after another, from the cursor on, before which there are none.
@@ -202,6 +204,33 @@ impl Document {
             ended.end_group();
         }
         ended
+    }
+
+    // Replaces the document by a copy to which edits of its numbered lines led, and wraps each line
+    // that they touched.
+    fn put_edited(&mut self, copy: Document) -> Result<(), AllocError>
+        requires { IsChangedFrom (text_and_layout self.old) (text_and_layout copy) }
+        ensures ok { OnOk result (self.new ≡ wrapped_at_once self.old copy) }
+        ensures err { OnErr result (self.new ≡ self.old) }
+    {
+        let Document {
+            text_layout,
+            cursor,
+            anchor,
+            ranges,
+            history,
+            changes,
+            range_history,
+        } = copy;
+        let wrapped = self.text_layout.wrapped_once(text_layout)?;
+        self.text_layout = wrapped;
+        self.cursor = cursor;
+        self.anchor = anchor;
+        self.ranges = ranges;
+        self.history = history;
+        self.changes = changes;
+        self.range_history = range_history;
+        Ok(())
     }
 
     /// Replaces the document by another one.

@@ -41,11 +41,13 @@ pub fn one_screen()
     one_drawing();
 }
 
-/// Which lines each call wraps, in every state that a text area has. Edits, undo and redo wrap what
-/// their splices wrap, which lead from the old text and rows to the new ones. New lines, a setting
-/// that changes the layout, and a drawing that changes the width of the map of visual rows wrap all
-/// lines. Every other call wraps none, and leaves the text, its rows and the wrap counter. A call
-/// that runs out of memory has made no splice, or only the one that removes the selected text.
+/// Which lines each call wraps, in every state that a text area has. Edits wrap what their splices
+/// wrap, which lead from the old text and rows to the new ones. An undo, a redo, and the calls that
+/// replace all matches, indent or outdent lines wrap each line that one of their splices touches,
+/// once, and no other, unless these change the width of the map of visual rows. New lines, a setting
+/// that changes the layout, and a drawing that changes that width wrap all lines. Every other call
+/// wraps none, and leaves the text, its rows and the wrap counter. A call that runs out of memory
+/// has made no splice, or only the one that removes the selected text.
 pub fn each_call_wraps()
     ensures made { (old new : State) (call : Call) (returned : CallResult) → IsSound old.document →
         IsAfterCall old call returned new → WrapsByCall old call new }

@@ -2,7 +2,7 @@ use Rattle.std.proofs.Common.{◌≡◌, ◌∙◌, is_some, sym, ap}
 use Rattle.std.proofs.lemmas.Result.{IfOk-weaker, on_err_weaker, on_ok_weaker}
 use Rattle.textarea_document.specs.ChangeLog.{changes_of}
 use Rattle.textarea_document.specs.RangeHistory.{past_of}
-use Rattle.textarea_document.specs.Prelude.{OnOk, IsSound, DocumentState, document_of, after_redo, edit_redone, next, next_group, times}
+use Rattle.textarea_document.specs.Prelude.{OnOk, IsSound, DocumentState, document_of, after_redo, edit_redone, next, next_group, times_at_once}
 use Rattle.textarea_document.proofs.Sounds.{after_step, sound_inside}
 use Rattle.textarea_document.proofs.UndoGroups.{sound_redo}
 use Rattle.textarea_document.proofs.document.Document.redo_edit.Goals as goal
@@ -18,7 +18,7 @@ redone : (c : After-redo_edit) → OnOk c.redo_edit.result
 redone c =
     let document = document_of c.self.inside.text_layout c.self.inside.cursor c.self.inside.anchor c.self.inside.ranges.items c.self.inside.history.log (changes_of c.self.inside.changes) (past_of c.self.inside.range_history) in
     let one : next_group document.log ≡ 1 = ap (λ (d : DocumentState). next_group d.log) c.self.view_is ∙ c.requires in
-    on_ok_weaker c.redo_edit.result (λ is. is ∙ sym (ap (λ count. times count edit_redone document) one)) c.redo_edit.ensures.ok
+    on_ok_weaker c.redo_edit.result (λ is. is ∙ sym (ap (λ count. times_at_once count edit_redone document) one)) c.redo_edit.ensures.ok
 
 pub invariant_of-self : goal.invariant_of-self
 invariant_of-self c =

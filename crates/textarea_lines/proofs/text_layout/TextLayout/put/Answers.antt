@@ -6,7 +6,7 @@ use Rattle.textarea_screen_map.specs.Map.{IsRowCount}
 use Rattle.textarea_lines.specs.declared.rewrap.WrappedRows.{WrappedRows}
 use Rattle.textarea_lines.specs.declared.text_layout.TextLayout.TheInside.{Inside}
 use Rattle.textarea_lines.specs.declared.settings.LayoutSettings.{LayoutSettings}
-use Rattle.textarea_lines.specs.TextLayout.{TextAndLayout, with_settings}
+use Rattle.textarea_lines.specs.TextLayout.{TextAndLayout, origins_of, with_settings}
 use Rattle.textarea_lines.specs.Stored.{IsPlaceAtByte, IsNextWrap}
 use Rattle.textarea_lines.specs.View.{IsRewrappedIfOther}
 use Rattle.textarea_lines.proofs.Widths.{Holds, holds_wrap, holds_same_whole, holds_same_wrapped}
@@ -15,7 +15,7 @@ use Rattle.textarea_lines.proofs.text_layout.TextLayout.put.Goals.{in-Some, in-N
 
 -- the lines as they are stored under the settings, and what was measured of them
 record HoldsAll (inside : Inside) (settings : LayoutSettings) (text_layout : TextAndLayout) : Type 0 where
-  pub rows : Holds settings inside.lines.items inside.size inside.count inside.map (with_settings text_layout settings)
+  pub rows : Holds (origins_of inside.origins) settings inside.lines.items inside.size inside.count inside.map (with_settings text_layout settings)
   pub measured : IfSome inside.measured (λ last. IsRowCount last.wrapping (lines_of inside.lines.items) last.rows)
   pub cached : IfSome inside.cached (IsNextWrap inside.count inside.lines.items)
   pub place : IsPlaceAtByte inside.lines.items inside.found
@@ -27,7 +27,7 @@ invariant_of-self c =
     let items = inside.lines.items in
     let settings = c.args.settings in
     let text_layout = c.args.self.now in
-    let before : Holds inside.settings items inside.size inside.count inside.map text_layout = record { rows = c.self.invariant.contents; is = c.self.view_is } in
+    let before : Holds (origins_of inside.origins) inside.settings items inside.size inside.count inside.map text_layout = record { rows = c.self.invariant.contents; is = c.self.view_is } in
     let known : HoldsAll c.match-wraps.self-inside settings text_layout =
     elim c.match-wraps.branch [
       | in-Some w ↦

@@ -2,6 +2,7 @@ use Rattle.std.proofs.Common.{arith, List, ap, length, ◌∙◌}
 use Rattle.std.proofs.lemmas.Grind.{common_steps}
 use Rattle.textarea_util.specs.Replaced.{replaced}
 use Rattle.textarea_text.specs.Text.{lines_of}
+use Rattle.textarea_lines.specs.TextLayout.{origins_of}
 use Rattle.textarea_lines.proofs.Stores.{count_stored}
 use Rattle.textarea_lines.proofs.Positions.{located_first}
 use Rattle.textarea_lines.proofs.Changes.{Replacing, holds_replaced, layout_replaced, some_now}
@@ -41,7 +42,7 @@ invariant_of-self-2 c =
 pub returns-clause-ok : goal.returns-clause-ok
 returns-clause-ok c =
     rw (← c.self.view_is)
-    (layout_replaced _ _ _ _ _ _ _ _ _ _ _ (steps (goal.at.returns-clause-ok c).After-replace) c.args.replacement.lines.ok.0 (rw (c.replace.ensures.rows, ← c.in_ok-prepared.ensures.same) c.in_ok-prepared.ensures.ready.layout))
+    (layout_replaced _ _ _ _ _ _ _ _ _ _ _ (steps (goal.at.returns-clause-ok c).After-replace) c.args.replacement.lines.ok.0 (rw (c.replace.ensures.rows, ← c.in_ok-prepared.ensures.same) (c.in_ok-prepared.ensures.ready.layout (origins_of c.self.inside.origins))))
 
 pub replace_in-requires-clause-within : goal.replace_in-requires-clause-within
 replace_in-requires-clause-within c =

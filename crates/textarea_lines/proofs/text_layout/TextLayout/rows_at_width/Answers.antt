@@ -1,4 +1,5 @@
 use Rattle.std.proofs.Common.{◌∙◌, ap, length, sym}
+use Rattle.textarea_lines.specs.TextLayout.{origins_of}
 use Rattle.textarea_lines.specs.Wrappings.{wrapping_for}
 use Rattle.textarea_lines.proofs.Measuring.{Measuring, counted_from_scratch, counted_as_cached, counted_as_measured, counted_in_text, same_as_cached}
 use Rattle.textarea_lines.proofs.text_layout.TextLayout.rows_at_width.Goals as goal
@@ -6,7 +7,7 @@ use Rattle.textarea_lines.proofs.text_layout.TextLayout.rows_at_width.Goals.{Aft
 
 steps :
     (c : After-wrapping)
-    → Measuring c.self.inside.settings c.self.inside.lines.items c.as_slice-lines.result.now c.self.inside.size c.self.inside.count c.args.inner_width c.self.inside.map c.args.self.now c.wrapping_at-wrapping.result c.wrapping.result
+    → Measuring (origins_of c.self.inside.origins) c.self.inside.settings c.self.inside.lines.items c.as_slice-lines.result.now c.self.inside.size c.self.inside.count c.args.inner_width c.self.inside.map c.args.self.now c.wrapping_at-wrapping.result c.wrapping.result
 steps c = record {
   contents = c.self.invariant.contents;
   is = c.self.view_is;

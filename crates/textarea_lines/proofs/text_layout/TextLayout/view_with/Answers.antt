@@ -1,6 +1,6 @@
 use Rattle.std.proofs.lemmas.Grind.{common_steps}
 use Rattle.std.proofs.Common.{arith, ◌≡◌, ◌∙◌, ap, subst, sym}
-use Rattle.textarea_lines.specs.TextLayout.{at_width, with_settings}
+use Rattle.textarea_lines.specs.TextLayout.{at_width, origins_of, with_settings}
 use Rattle.textarea_screen_map.specs.BorrowedLines.{BorrowedRows}
 use Rattle.textarea_lines.specs.View.{IsPrepared, IsViewOf, PreparedView}
 use Rattle.textarea_screen_map.specs.Map.{MapView}
@@ -17,7 +17,7 @@ map_is c = elim c.match-prepared.branch [
 
 -- the lines are stored with its rows
 contents :
-    (c : goal.After-as_slice) → Holds (at_width c.args.self.now c.prepared.inside.inner_width) c.self.inside.lines.items c.self.inside.size
+    (c : goal.After-as_slice) → Holds (origins_of c.self.inside.origins) (at_width c.args.self.now c.prepared.inside.inner_width) c.self.inside.lines.items c.self.inside.size
     (count_at c.prepared.inside.wraps c.self.inside.count) c.match-prepared.map.now
     (with_settings c.args.self.now (at_width c.args.self.now c.prepared.inside.inner_width))
 contents c =
@@ -26,7 +26,7 @@ contents c =
     let width = c.prepared.inside.inner_width in
     let wraps = c.prepared.inside.wraps in
     let ready : IsPrepared text_layout (record { inner_width = width; wraps = wraps }) = subst (λ (p : PreparedView). IsPrepared text_layout p) (sym c.prepared.view_is) c.requires in
-    subst (λ (m : MapView). Holds (at_width text_layout width) inside.lines.items inside.size (count_at wraps inside.count) m (with_settings text_layout (at_width text_layout width))) (map_is c)
+    subst (λ (m : MapView). Holds (origins_of inside.origins) (at_width text_layout width) inside.lines.items inside.size (count_at wraps inside.count) m (with_settings text_layout (at_width text_layout width))) (map_is c)
     (holds_at inside.settings inside.lines.items inside.size inside.count inside.map text_layout width wraps (record { rows = c.self.invariant.contents; is = c.self.view_is }) ready.wraps)
 
 pub new-requires-clause-rows : goal.new-requires-clause-rows

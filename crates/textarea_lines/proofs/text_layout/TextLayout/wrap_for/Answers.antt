@@ -1,5 +1,5 @@
 use Rattle.std.proofs.Common.{◌∙◌, ap, subst, sym}
-use Rattle.textarea_lines.specs.TextLayout.{TextAndLayout}
+use Rattle.textarea_lines.specs.TextLayout.{TextAndLayout, origins_of}
 use Rattle.textarea_lines.specs.View.{IsWholeWrap}
 use Rattle.textarea_lines.specs.Wrappings.{wrapping_for}
 use Rattle.textarea_lines.proofs.Changes.{Reviewing, test_is}
@@ -7,7 +7,7 @@ use Rattle.textarea_lines.proofs.Widths.{wrap_for}
 use Rattle.textarea_lines.proofs.text_layout.TextLayout.wrap_for.Goals as goal
 use Rattle.textarea_lines.proofs.text_layout.TextLayout.wrap_for.Goals.{After-is_same}
 
-steps : (c : After-is_same) → Reviewing c.self.inside.settings c.args.settings c.self.inside.lines.items c.self.inside.count c.self.inside.map.rows c.args.self.now c.wrapping-before.result c.wrapping_for-after.result
+steps : (c : After-is_same) → Reviewing (origins_of c.self.inside.origins) c.self.inside.settings c.args.settings c.self.inside.lines.items c.self.inside.count c.self.inside.map.rows c.args.self.now c.wrapping-before.result c.wrapping_for-after.result
 steps c = record {
   some = c.self.invariant.contents.stored.some;
   is = c.self.view_is;

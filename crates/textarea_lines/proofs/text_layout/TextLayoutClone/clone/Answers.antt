@@ -25,6 +25,6 @@ returns c =
     record {
       cases =
           layout_copied inside.settings inside.lines.items copies inside.count c.in_ok-count.count inside.map.rows c.in_ok-map.map.rows
-          (lines_copied inside.lines.items copies c.in_ok-lines.ensures.cases.0) c.in_ok-count.ensures.cases c.in_ok-map.ensures.cases.0 ∙
+          (lines_copied inside.lines.items copies c.in_ok-lines.ensures.cases.0) c.in_ok-count.ensures.cases c.in_ok-map.ensures.cases.0 c.in_ok-origins.ensures ∙
           c.self.view_is;
     }

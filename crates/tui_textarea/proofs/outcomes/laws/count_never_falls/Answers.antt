@@ -4,6 +4,7 @@ use Rattle.tui_textarea.proofs.outcomes.laws.count_never_falls.Goals as goal
 pub returns : goal.returns
 returns c =
     let never : Never = record {
+      at_once = c.count_never_falls.ensures.at_once;
       splices = c.count_never_falls.ensures.splices;
       width = c.count_never_falls.ensures.width;
       settings = c.count_never_falls.ensures.settings;

@@ -7,6 +7,7 @@ returns c =
       edited = c.edits_wrap.ensures.edited;
       undone = c.edits_wrap.ensures.undone;
       redone = c.edits_wrap.ensures.redone;
+      replaced = c.edits_wrap.ensures.replaced;
       width = c.layout_changes_wrap.ensures.width;
       settings = c.layout_changes_wrap.ensures.settings;
       lines = c.layout_changes_wrap.ensures.lines;

@@ -1,7 +1,7 @@
 use Rattle.std.proofs.Common.{ap}
 use Rattle.textarea_lines.specs.TextLayout.{TextAndLayout}
 use Rattle.textarea_lines.proofs.Changes.{size_made}
-use Rattle.textarea_lines.proofs.text_layout.TextLayout.apply.Goals as goal
+use Rattle.textarea_lines.proofs.text_layout.TextLayout.apply_to_lines.Goals as goal
 
 pub apply_inside-requires-clause-size : goal.apply_inside-requires-clause-size
 apply_inside-requires-clause-size c =
