@@ -41,6 +41,7 @@ use Rattle.tui_textarea.specs.Drawing.{widget_of}
 use Rattle.tui_textarea.specs.DrawnFrame.{WidgetState}
 use Rattle.tui_textarea.specs.Edits.{inserts_text, str_inserted}
 use Rattle.textarea_data.specs.declared.range.AtomicCursorBias.TheVariants.{Forward as BiasForward}
+use Rattle.textarea_keys.specs.Bindings.{IsBoundCommand}
 use Rattle.textarea_keys.specs.Clicks.{click_below, click_by}
 use Rattle.textarea_keys.specs.PromptKeys.{prompt_key}
 use Rattle.textarea_keys.specs.ReplaceKeys.{replace_key}
