@@ -116,6 +116,13 @@ enum {
     TA_FORWARD = 1,
 };
 
+/** `ChangeUnit`. */
+enum {
+    TA_UNIT_CHARACTERS = 0,
+    TA_UNIT_BYTES = 1,
+    TA_UNIT_UTF16 = 2,
+};
+
 /** `WrapMode`. */
 enum {
     TA_WRAP_NONE = 0,
@@ -135,6 +142,12 @@ enum {
 enum {
     TA_CURSOR_CELL = 0,
     TA_CURSOR_HIDDEN = 1,
+};
+
+/** `CursorUnit`. */
+enum {
+    TA_CURSOR_UNIT_CHARACTER = 0,
+    TA_CURSOR_UNIT_CLUSTER = 1,
 };
 
 /** `Color`. */
@@ -414,8 +427,8 @@ uint32_t ta_from_text(ta_handle_t *handle, const uint8_t *text, size_t text_len)
 void ta_free(ta_handle_t *handle);
 
 /** Makes a copy of the text area, with its history, behind another handle, `copy`. A text area that
- * was behind that one is freed. The copy's screen has no cells, and it has no rejected ranges or
- * pattern.
+ * was behind that one is freed. The copy's screen has no cells, it has no rejected ranges or
+ * pattern, and its log of changes is empty.
  *
  * Statuses: ok, out of memory, empty handle. Where it is not ok, `copy` stays as it was. */
 uint32_t ta_clone(ta_handle_t *handle, ta_handle_t *copy);
@@ -469,6 +482,19 @@ uint32_t ta_is_empty(ta_handle_t *handle);
  * Statuses: ok, out of memory, empty handle. */
 uint32_t ta_duplicate_line(ta_handle_t *handle);
 
+/** Moves the cursor's line, or the lines of the selection, up by one row. The line above is then
+ * below them; the result is whether there was one. It is one group of edits. Cursor, selection and
+ * the atomic ranges of these lines move along; those of the line above are removed with it.
+ *
+ * Statuses: ok (true), false, out of memory, empty handle. */
+uint32_t ta_move_lines_up(ta_handle_t *handle);
+
+/** Moves these lines down by one row. The line below is then above them; the result is whether
+ * there was one. All else is as for `ta_move_lines_up`.
+ *
+ * Statuses: ok (true), false, out of memory, empty handle. */
+uint32_t ta_move_lines_down(ta_handle_t *handle);
+
 /** Inserts the character with this number at the cursor, or at the end of the atomic range that
  * strictly contains it, as typed; a line feed and a carriage return break the line.
  *
@@ -508,6 +534,58 @@ uint32_t ta_insert_tab(ta_handle_t *handle);
  * Statuses: ok, false (there was none), out of memory (the selected text may have been removed),
  * empty handle. */
 uint32_t ta_paste(ta_handle_t *handle);
+
+/* Replacements of text, and of what lines begin with, each one group of edits. */
+
+/** Returns the text between two positions, in either order, with a line feed for each line break.
+ * Positions beyond the text count as the nearest ones in it. `out` gets the first of its bytes, as
+ * many as there is room for, and `needed` the number of all.
+ *
+ * Statuses: ok, out of memory, empty handle. */
+uint32_t ta_text_range(ta_handle_t *handle, size_t from_row, size_t from_column, size_t to_row, size_t to_column, uint8_t *out, size_t out_len, size_t *needed);
+
+/** Replaces the text between two positions, in either order, by this one; one undo takes both back.
+ * Positions beyond the text count as the nearest ones in it. Each atomic range that the replaced
+ * text overlaps is removed, and each line feed of the text breaks the line. The cursor is then
+ * after what was inserted, and nothing is selected.
+ *
+ * Statuses: ok (it removed or inserted something), false, out of memory (nothing changed), invalid
+ * argument (the text is not UTF-8), empty handle. */
+uint32_t ta_replace_range(ta_handle_t *handle, size_t from_row, size_t from_column, size_t to_row, size_t to_column, const uint8_t *text, size_t text_len);
+
+/** Replaces the match of the search pattern that begins at the cursor by this text, and moves the
+ * cursor to the next match at or after what was inserted; after an empty match at least one
+ * character later. Without such a match it searches as `ta_search_forward` does.
+ *
+ * Statuses: ok (it replaced a match), false, out of memory (nothing changed, and a pattern is set),
+ * invalid argument (the text is not UTF-8), empty handle. */
+uint32_t ta_replace_match(ta_handle_t *handle, const uint8_t *text, size_t text_len);
+
+/** Replaces each match of the search pattern in the text as it is now by this text; one undo takes
+ * all back, if as many edits are remembered, at most two for each match. Matches in what is inserted
+ * are left, and so is a match of which an end is strictly inside an atomic range. An empty match
+ * inserts the text. The cursor is then after the last one that was replaced, and `count` is their
+ * number; without matches nothing changes.
+ *
+ * Statuses: ok, out of memory (nothing changed, and a pattern is set), invalid argument (the text is
+ * not UTF-8), empty handle. */
+uint32_t ta_replace_all(ta_handle_t *handle, const uint8_t *text, size_t text_len, size_t *count);
+
+/** Inserts a tab at the start of the cursor's line, or of each line of the selection, as one group
+ * of edits, and returns whether it inserted one. Empty lines are left, and at tab length 0 all
+ * lines. Cursor and selection move with the text, but a selection that begins at column 0 still
+ * does.
+ *
+ * Statuses: ok (true), false, out of memory, empty handle. */
+uint32_t ta_indent_lines(ta_handle_t *handle);
+
+/** Removes a tab character, or spaces, at most as many as the tab length, from the start of the
+ * cursor's line, or of each line of the selection, as one group of edits, and returns whether
+ * there were any. It removes no character of an atomic range. Cursor and selection move with the
+ * text.
+ *
+ * Statuses: ok (true), false, out of memory, empty handle. */
+uint32_t ta_outdent_lines(ta_handle_t *handle);
 
 /* Removals. If text is selected, each of them but `ta_clear` removes only that. */
 
@@ -619,6 +697,15 @@ uint32_t ta_set_undo_coalescing(ta_handle_t *handle, bool joins);
  * Statuses: ok, empty handle. */
 uint32_t ta_set_undo_grouping(ta_handle_t *handle, bool groups);
 
+/** Sets whether atomic ranges are remembered for undo and redo. Then an undo of an edit, or of a
+ * group of edits, leaves exactly the ranges that were there before it, and a redo those after it:
+ * a range that was removed is there again. Where ranges were set or cleared since the edit, or
+ * this was off, they move with the text instead. Each edit takes a copy of the ranges. Off at
+ * first.
+ *
+ * Statuses: ok, empty handle. */
+uint32_t ta_set_undo_ranges(ta_handle_t *handle, bool on);
+
 /** Begins a group, if none is open, and ends a run of typing. The edits until `ta_end_undo_group`
  * are undone and redone together. If they are more than are remembered, all edits are forgotten.
  *
@@ -651,11 +738,49 @@ uint32_t ta_undo_coalescing(ta_handle_t *handle);
  * Statuses: ok (true), false, empty handle. */
 uint32_t ta_undo_grouping(ta_handle_t *handle);
 
+/** Returns whether atomic ranges are remembered for undo and redo.
+ *
+ * Statuses: ok (true), false, empty handle. */
+uint32_t ta_undo_ranges(ta_handle_t *handle);
+
 /** Sets the time of the edits that follow, in nanoseconds from any fixed time. A time before the
  * last edit's counts as no pause.
  *
  * Statuses: ok, empty handle. */
 uint32_t ta_set_now(ta_handle_t *handle, uint64_t nanoseconds);
+
+/* What changed in the text. */
+
+/** Begins a log of what changes in the text, with columns in the unit: `TA_UNIT_CHARACTERS`,
+ * `TA_UNIT_BYTES` of UTF-8, or `TA_UNIT_UTF16`. The changes in the log before are forgotten.
+ *
+ * Statuses: ok, invalid argument (there is no such unit), empty handle. */
+uint32_t ta_set_change_log(ta_handle_t *handle, uint32_t unit);
+
+/** Ends the log of what changes in the text, and forgets its changes.
+ *
+ * Statuses: ok, empty handle. */
+uint32_t ta_remove_change_log(ta_handle_t *handle);
+
+/** Takes the changes out of the log; `count` gets their number. `ta_change` and `ta_change_line`
+ * return them, in place of those that were taken before.
+ *
+ * Statuses: ok, empty handle. */
+uint32_t ta_take_changes(ta_handle_t *handle, size_t *count);
+
+/** Returns one of the changes that were taken last, by its index, from 0 in the order in which they
+ * were made: its start, the end of what it removed, both in the text just before it, and the number
+ * of the inserted lines, at least one.
+ *
+ * Statuses: ok, false (there is no such change), empty handle. */
+uint32_t ta_change(ta_handle_t *handle, size_t index, size_t *start_row, size_t *start_column, size_t *end_row, size_t *end_column, size_t *lines);
+
+/** Returns one of the inserted lines of a change that was taken last, by its row in it, from 0. `out`
+ * gets the first of its bytes, as many as there is room for, and `needed` the number of all. A line
+ * feed in it is a character of the line.
+ *
+ * Statuses: ok, false (there is no such change, or no such line), empty handle. */
+uint32_t ta_change_line(ta_handle_t *handle, size_t index, size_t row, uint8_t *out, size_t out_len, size_t *needed);
 
 /* Moves of the cursor, and scrolls. */
 
@@ -751,6 +876,27 @@ uint32_t ta_set_yank_text(ta_handle_t *handle, const uint8_t *text, size_t text_
  * empty handle. Where it is not ok, the pattern stays. */
 uint32_t ta_set_search_pattern(ta_handle_t *handle, const uint8_t *pattern, size_t pattern_len);
 
+/** Sets a search pattern that finds the text as it is: each character that has a meaning in the
+ * syntax of patterns is escaped. The empty text removes the pattern. With `ignore_case`, letters
+ * of either case match. With `whole_word`, each end of the text that is a word's character must be
+ * an end of a word.
+ *
+ * Statuses: ok, out of memory, pattern rejected (it is too large), invalid argument (the text is
+ * not UTF-8), empty handle. Where it is not ok, the pattern stays. */
+uint32_t ta_set_search_text(ta_handle_t *handle, const uint8_t *text, size_t text_len, bool ignore_case, bool whole_word);
+
+/** Writes the number of the search pattern's matches in the whole text; 0 without a pattern.
+ *
+ * Statuses: ok, out of memory, empty handle. */
+uint32_t ta_match_count(ta_handle_t *handle, size_t *count);
+
+/** Writes the number, counted from 0 in the order of the text, of the match that starts at the
+ * cursor.
+ *
+ * Statuses: ok, false (no match starts at the cursor, or no pattern is set), out of memory, empty
+ * handle. */
+uint32_t ta_match_index(ta_handle_t *handle, size_t *index);
+
 /** Returns why a pattern was rejected last, in words; empty if none was. `out` gets the first of
  * its bytes, as many as there is room for, and `needed` the number of all.
  *
@@ -826,7 +972,7 @@ uint32_t ta_atomic_range_at_cursor(ta_handle_t *handle, uint32_t direction, ta_r
  * empty handle. */
 uint32_t ta_delete_atomic_range_at_cursor(ta_handle_t *handle, uint32_t direction, ta_range_t *range);
 
-/* Options of tabs, line numbers and heights. */
+/* Options of tabs, the greatest number of characters, and what the cursor goes over. */
 
 /** Sets the distance of tab stops, in columns; at 0 a tab inserts nothing.
  *
@@ -837,6 +983,22 @@ uint32_t ta_set_tab_length(ta_handle_t *handle, uint8_t columns);
  *
  * Statuses: ok, empty handle. */
 uint32_t ta_set_hard_tab_indent(ta_handle_t *handle, bool hard);
+
+/** Sets whether the text area is read only. Then no call but `ta_set_lines` changes the text: every
+ * other call that edits, and an undo and a redo, changes nothing, neither what is yanked nor the
+ * selection, and returns false, 0 or nothing. But `ta_cut` does what `ta_copy` does, and returns
+ * whether a text was selected. Off at first.
+ *
+ * Statuses: ok, empty handle. */
+uint32_t ta_set_read_only(ta_handle_t *handle, bool read_only);
+
+/** Sets whether the text is kept in a single line, and returns whether it could be set: a text of
+ * several lines can't be. Then a line break that is typed, and `ta_duplicate_line`, do nothing,
+ * breaks of a text that is inserted or pasted become spaces, and `ta_set_lines` of several lines
+ * does nothing. Setting it forgets all edits. Off at first.
+ *
+ * Statuses: ok (true), false, empty handle. */
+uint32_t ta_set_single_line(ta_handle_t *handle, bool single_line);
 
 /** Hides the line numbers.
  *
@@ -854,6 +1016,16 @@ uint32_t ta_set_min_rows(ta_handle_t *handle, uint16_t rows);
  *
  * Statuses: ok, empty handle. */
 uint32_t ta_set_max_rows(ta_handle_t *handle, uint16_t rows);
+
+/** Returns whether the text area is read only.
+ *
+ * Statuses: ok (true), false, empty handle. */
+uint32_t ta_read_only(ta_handle_t *handle);
+
+/** Returns whether the text is kept in a single line.
+ *
+ * Statuses: ok (true), false, empty handle. */
+uint32_t ta_single_line(ta_handle_t *handle);
 
 /** Returns the distance of tab stops, in columns.
  *
@@ -880,6 +1052,40 @@ uint32_t ta_max_rows(ta_handle_t *handle, uint16_t *max_rows);
  *
  * Statuses: ok, empty handle. */
 uint32_t ta_indent(ta_handle_t *handle, uint8_t *out, size_t out_len, size_t *needed);
+
+/** Sets the greatest number of characters of the text, a line break counted as one. Then what is
+ * typed does nothing if it doesn't fit, and an inserted text is cut at the end of the last of its
+ * grapheme clusters that fits. `ta_duplicate_line`, `ta_indent_lines` and `ta_replace_all` do
+ * nothing unless all that they insert fits. Undo, redo and `ta_set_lines` are never cut. There is
+ * no such number at first, and after `ta_clear_max_chars`.
+ *
+ * Statuses: ok, empty handle. */
+uint32_t ta_set_max_chars(ta_handle_t *handle, size_t maximum);
+
+/** Lets the text have any number of characters, as at first.
+ *
+ * Statuses: ok, empty handle. */
+uint32_t ta_clear_max_chars(ta_handle_t *handle);
+
+/** Returns the greatest number of characters of the text.
+ *
+ * Statuses: ok, false (there is none: any number fits), empty handle. */
+uint32_t ta_max_chars(ta_handle_t *handle, size_t *maximum);
+
+/** Sets what the cursor goes over as a whole, beside atomic ranges: a character
+ * (`TA_CURSOR_UNIT_CHARACTER`, as at first) or an extended grapheme cluster
+ * (`TA_CURSOR_UNIT_CLUSTER`), such as a letter with its accents. With clusters no call leaves the
+ * cursor or the selection's beginning inside one, this call included. What is removed is whole
+ * clusters of the text before it, but for `ta_delete_str`; what stays may form others, as flags do.
+ * A match at an end of which no cluster begins or ends isn't found, counted or replaced.
+ *
+ * Statuses: ok, invalid argument (there is no such unit), empty handle. */
+uint32_t ta_set_cursor_unit(ta_handle_t *handle, uint32_t unit);
+
+/** Returns what the cursor goes over as a whole.
+ *
+ * Statuses: ok, empty handle. */
+uint32_t ta_cursor_unit(ta_handle_t *handle, uint32_t *unit);
 
 /* Wrapping, line numbers, alignment and measuring. */
 
@@ -938,6 +1144,12 @@ uint32_t ta_set_cursor_style(ta_handle_t *handle, const ta_style_t *style);
  * Statuses: ok, invalid argument (a colour's kind does not exist), empty handle. */
 uint32_t ta_set_cursor_line_style(ta_handle_t *handle, const ta_style_t *style);
 
+/** Sets the style of the line number of the cursor's line, over the style of all line numbers. The
+ * blanks before the line's other visual rows aren't in it.
+ *
+ * Statuses: ok, invalid argument (a colour's kind does not exist), empty handle. */
+uint32_t ta_set_cursor_line_number_style(ta_handle_t *handle, const ta_style_t *style);
+
 /** Sets the style of selected text.
  *
  * Statuses: ok, invalid argument (a colour's kind does not exist), empty handle. */
@@ -962,6 +1174,11 @@ uint32_t ta_cursor_style(ta_handle_t *handle, ta_style_t *style);
  *
  * Statuses: ok, empty handle. */
 uint32_t ta_cursor_line_style(ta_handle_t *handle, ta_style_t *style);
+
+/** Returns the style of the line number of the cursor's line, over the style of all line numbers.
+ *
+ * Statuses: ok, empty handle. */
+uint32_t ta_cursor_line_number_style(ta_handle_t *handle, ta_style_t *style);
 
 /** Returns the style of selected text.
  *
