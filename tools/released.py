@@ -85,7 +85,9 @@ def link_shared(archive, version, out):
     script.write_text("{ global: ta_*; local: *; };\n")
     words = [built.kit() / "toolchain/bin/ld.lld", "-shared", "-s", "--gc-sections", "-z", "now", "-z", "noexecstack"]
     words += ["--build-id=none", "-soname", soname(version), f"--version-script={script}", "-o", out]
-    run([*words, "--whole-archive", archive, "--no-whole-archive", built.kit() / "toolchain/lib/libc.so.6"])
+    # libgcc.a has the division of 128 bits.
+    libraries = [built.kit() / "toolchain/lib" / name for name in ("libgcc.a", "libc.so.6")]
+    run([*words, "--whole-archive", archive, "--no-whole-archive", *libraries])
     script.unlink()
 
 
