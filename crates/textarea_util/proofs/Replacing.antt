@@ -38,7 +38,9 @@ replaced_by_fewer items new start count shared within few all =
 -- more new items than old ones: the rest is appended, and the items below are moved after it
 pub replaced_by_more : {X : Type 0} (items new : List X) (start count shared below : ℕ) → start + count ≤ length items → shared ≡ count → shared ≤ length new →
     below ≡ length items - (start + shared) →
-    take (start + shared) (replaced items start shared (take shared new) ++ drop shared new) ++ (drop (start + shared + below) (replaced items start shared (take shared new) ++ drop shared new) ++ take below (drop (start + shared) (replaced items start shared (take shared new) ++ drop shared new))) ≡ replaced items start count new
+    take (start + shared) (replaced items start shared (take shared new) ++ drop shared new)
+    ++ (drop (start + shared + below) (replaced items start shared (take shared new) ++ drop shared new)
+    ++ take below (drop (start + shared) (replaced items start shared (take shared new) ++ drop shared new))) ≡ replaced items start count new
 replaced_by_more items new start count shared below within all some size =
     let above = take start items in
     let first = take shared new in
